@@ -1,0 +1,5 @@
+pub mod Builtin
+pub mod Fault
+pub mod Hash
+pub mod Place
+pub mod Ref

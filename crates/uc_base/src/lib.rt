@@ -1,6 +1,20 @@
 //! What every crate speaks of: bytes, hashes, references, names, places and faults.
 #![tactic(auto)]
 
+mod builtin;
 mod bytes;
+mod decimal;
+mod fault;
+mod hash;
+mod place;
+mod reference;
 
+pub use builtin::{
+    BUILTIN_TERMS, BUILTIN_TYPES, FIRST_BUILTIN_TERM, builtin_name_of, builtin_number_of,
+};
 pub use bytes::Bytes;
+pub use decimal::write_decimal;
+pub use fault::{Fault, MEMORY_LINE};
+pub use hash::{HASH_TEXT_LEN, Hash};
+pub use place::{At, Place, Sort, Spot};
+pub use reference::Ref;
