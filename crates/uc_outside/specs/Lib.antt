@@ -1,0 +1,7 @@
+pub mod Count
+pub mod Digests
+pub mod MemSink
+pub mod MemSinkView
+pub mod MemSource
+pub mod MemSourceView
+pub mod Plan
