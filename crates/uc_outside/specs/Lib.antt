@@ -1,5 +1,6 @@
 pub mod Count
 pub mod Digests
+pub mod Disk
 pub mod MemSink
 pub mod MemSinkView
 pub mod MemSource

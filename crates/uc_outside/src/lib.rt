@@ -2,6 +2,7 @@
 #![tactic(auto)]
 
 mod digester;
+mod disk;
 mod failed;
 mod mem_sink;
 mod mem_source;
@@ -11,6 +12,7 @@ mod source;
 mod std_streams;
 
 pub use digester::{Digester, Sha512Digester, SumDigester};
+pub use disk::Disk;
 pub use failed::Failed;
 pub use mem_sink::MemSink;
 pub use mem_source::MemSource;
