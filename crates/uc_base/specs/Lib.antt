@@ -1,4 +1,5 @@
 pub mod Builtin
+pub mod Decimal
 pub mod Fault
 pub mod Hash
 pub mod Place

@@ -13,7 +13,7 @@ pub use builtin::{
     BUILTIN_TERMS, BUILTIN_TYPES, FIRST_BUILTIN_TERM, builtin_name_of, builtin_number_of,
 };
 pub use bytes::Bytes;
-pub use decimal::write_decimal;
+pub use decimal::{read_decimal, write_decimal};
 pub use fault::{Fault, MEMORY_LINE};
 pub use hash::{HASH_TEXT_LEN, Hash};
 pub use place::{At, Place, Sort, Spot};
