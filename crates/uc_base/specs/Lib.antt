@@ -1,5 +1,6 @@
 pub mod Builtin
 pub mod Fault
 pub mod Hash
+pub mod Name
 pub mod Place
 pub mod Ref
