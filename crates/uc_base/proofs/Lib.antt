@@ -1,1 +1,3 @@
 pub mod HashText
+pub mod Segments
+pub mod Suffixes

@@ -2,5 +2,6 @@ pub mod Builtin
 pub mod Decimal
 pub mod Fault
 pub mod Hash
+pub mod Name
 pub mod Place
 pub mod Ref
