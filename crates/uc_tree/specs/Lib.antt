@@ -1,0 +1,14 @@
+pub mod Declarations
+pub mod PatternCodes
+pub mod PatternFalls
+pub mod PatternViews
+pub mod Same
+pub mod Patterns
+pub mod TermCodes
+pub mod TermFalls
+pub mod TermViews
+pub mod Terms
+pub mod TypeCodes
+pub mod TypeFalls
+pub mod TypeViews
+pub mod Types

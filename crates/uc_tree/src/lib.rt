@@ -1,0 +1,22 @@
+//! Types, patterns, terms, definitions and declarations as trees.
+#![tactic(auto)]
+
+mod copying;
+mod declaration;
+mod definition;
+mod item;
+mod literal;
+mod pattern;
+mod target;
+mod term;
+mod ty;
+
+pub use copying::{copy_cases, copy_patterns, copy_signature, copy_terms, copy_types};
+pub use declaration::Decl;
+pub use definition::Definition;
+pub use item::Item;
+pub use literal::Literal;
+pub use pattern::{Pattern, PatternNode};
+pub use target::Target;
+pub use term::{Case, Term, TermNode};
+pub use ty::{Ty, TyNode};
