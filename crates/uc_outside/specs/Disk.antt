@@ -1,5 +1,5 @@
 -- What the calls of a disk do to its file, and what a crash may do between two syncs.
-use Rattle.std.specs.Prelude.{◌≡◌, ◌⊎◌, ℕ, ◌+◌, ◌≤◌, max, List, ◌++◌, length, take, drop, Result, OnOk, OnErr}
+use Rattle.std.specs.Prelude.{◌≡◌, ◌⊎◌, ℕ, ◌+◌, ◌≤◌, max, List, [], ◌++◌, length, take, drop, Result, OnOk, OnErr}
 
 -- what a disk tells at one moment
 pub record DiskView : Type 1 where
@@ -13,6 +13,10 @@ pub record DiskView : Type 1 where
   pub might_have_left : ℕ → List ℕ → Type 0
   -- how many syncs have succeeded
   pub sync_count : ℕ
+
+-- what a disk tells that tells nothing
+abbrev pub untold : DiskView
+untold = record { seen = []; may_leave = λ _. ⊥; moment = 0; might_have_left = λ _ _. ⊥; sync_count = 0 }
 
 -- new is old with these bytes at this offset
 abbrev pub Holds : List ℕ → ℕ → List ℕ → List ℕ → Type 0

@@ -1,8 +1,13 @@
+pub mod Call
 pub mod Count
 pub mod Digests
 pub mod Disk
+pub mod Kept
+pub mod MemDisk
 pub mod MemSink
 pub mod MemSinkView
 pub mod MemSource
 pub mod MemSourceView
 pub mod Plan
+pub mod Replay
+pub mod Sound

@@ -1,9 +1,14 @@
 //! The outside: devices as traits, and devices in memory.
 #![tactic(auto)]
 
+mod counter;
 mod digester;
 mod disk;
+mod done;
 mod failed;
+mod file_disk;
+mod lent;
+mod mem_disk;
 mod mem_sink;
 mod mem_source;
 mod script;
@@ -14,6 +19,9 @@ mod std_streams;
 pub use digester::{Digester, Sha512Digester, SumDigester};
 pub use disk::Disk;
 pub use failed::Failed;
+pub use file_disk::FileDisk;
+pub use lent::Lent;
+pub use mem_disk::MemDisk;
 pub use mem_sink::MemSink;
 pub use mem_source::MemSource;
 pub use sink::Sink;

@@ -1,0 +1,161 @@
+//! A disk in memory. Its record of calls tells what a crash might have left at any moment.
+ghost use Rattle.std.specs.Prelude.{◌≡◌, ◌+◌, ◌^◌, ◌↔◌, ◌≤◌, [], ◌∷◌, ◌++◌, length, take, drop, IfOk, IsErr, OnOk, OnErr, vec_capacity};
+ghost use Rattle.uc_outside.specs.Count.{HasCause};
+ghost use Rattle.uc_outside.specs.Disk.{Rests, Writes, Syncs};
+ghost use Rattle.uc_outside.specs.Call.{Synced};
+ghost use Rattle.uc_outside.specs.MemDisk.{Refuses, Counts, Records, Adds};
+ghost use Rattle.uc_outside.specs.Replay.{over};
+
+use crate::counter::Counter;
+use crate::done::Done;
+use crate::script::Script;
+use crate::{Disk, Failed};
+use std::alloc::{AllocError, Global};
+use std::marker::Model;
+use uc_base::Bytes;
+
+/// A disk in memory, which tells all that it holds and all that a crash may leave of it.
+#[derive(Drop)]
+pub struct MemDisk {
+    first: Bytes,
+    file: Vec<u8>,
+    log: Vec<u8>,
+    done: Vec<Done>,
+    counter: Counter,
+}
+
+impl Model for MemDisk {
+    ghost use Rattle.uc_outside.specs.MemDisk.{MemFile};
+
+    ghost Value = { MemFile };
+
+    ghost use Rattle.uc_outside.specs.Kept.{mem_file, IsKept};
+
+    ghost view = { mem_file };
+
+    ghost invariant = { IsKept };
+}
+
+impl MemDisk {
+    /// A disk that holds these bytes. It takes its memory here: for `calls` calls, which write `room` bytes in all.
+    /// The calls whose numbers stand in `failing` fail; they are counted from 1.
+    pub fn new(
+        alloc: Global,
+        bytes: Bytes,
+        calls: u64,
+        room: u64,
+        failing: Vec<u64>,
+    ) -> Result<MemDisk, AllocError>
+        ensures { IfOk result (λ disk. disk ≡ record { first = bytes; calls = []; left = calls; plan = record { made = 0; room = room; failing = failing.items }; failed = 0 }) }
+    {
+        let mut file = Vec::from_slice(alloc, bytes.as_slice())?;
+        file.reserve(room as usize)?;
+        Ok(MemDisk {
+            first: bytes,
+            file,
+            log: Vec::with_capacity(alloc, room as usize)?,
+            done: Vec::with_capacity(alloc, calls as usize)?,
+            counter: Counter {
+                left: calls,
+                script: Script::new(room, failing),
+                failed: 0,
+            },
+        })
+    }
+}
+
+// Lays bytes over a file that has room for them.
+fn lay(file: &mut Vec<u8>, at: usize, bytes: &[u8])
+    requires within { at ≤ length file.old.items }
+    requires room { length file.old.items + length bytes.now ≤ vec_capacity file.old }
+    ensures laid { file.new.items ≡ over file.old.items at bytes.now }
+    ensures capacity { vec_capacity file.old ≤ vec_capacity file.new }
+{
+    let inside = bytes.len().min(file.len() - at);
+    file.as_mut_slice()[at..at + inside].copy_from_slice(&bytes[..inside]);
+    match file.extend_from_slice(&bytes[inside..]) {
+        Ok(()) => {}
+        Err(_) => unreachable!(),
+    }
+}
+
+impl Disk for MemDisk {
+    ghost use Rattle.uc_outside.specs.MemDisk.{disk_view};
+    ghost use Rattle.uc_outside.specs.Sound.{told_by_sound};
+
+    ghost tells = { Unit {0} };
+
+    ghost view = { disk_view };
+
+    ghost place = { λ _. 0 };
+
+    ghost faults = { λ disk. disk.failed };
+
+    ghost sound = { λ disk _. told_by_sound disk.first disk.calls };
+
+    fn len(&mut self) -> Result<u64, Failed>
+        ensures length { IfOk result (λ n. n ≡ length (disk_view self.old).seen) }
+        ensures told { Rests (disk_view self.old) (disk_view self.new) }
+        ensures cause { HasCause self.old.failed self.new.failed result }
+        ensures exactly { IsErr result ↔ Refuses self.old 0 }
+        ensures counted { Counts self.old self.new 0 result }
+        ensures calls { self.new.calls ≡ self.old.calls }
+    {
+        if self.counter.refuses(0) {
+            return Err(Failed);
+        }
+        Ok(self.file.len() as u64)
+    }
+
+    fn read_at(&mut self, at: u64, room: &mut [u8]) -> Result<(), Failed>
+        requires { at + length room.old ≤ length (disk_view self.old).seen }
+        ensures bytes { OnOk result (room.new ≡ take (length room.old) (drop at (disk_view self.old).seen)) }
+        ensures told { Rests (disk_view self.old) (disk_view self.new) }
+        ensures cause { HasCause self.old.failed self.new.failed result }
+        ensures exactly { IsErr result ↔ Refuses self.old 0 }
+        ensures counted { Counts self.old self.new 0 result }
+        ensures calls { self.new.calls ≡ self.old.calls }
+    {
+        if self.counter.refuses(0) {
+            return Err(Failed);
+        }
+        let from = at as usize;
+        room.copy_from_slice(&self.file[from..from + room.len()]);
+        Ok(())
+    }
+
+    fn write_at(&mut self, at: u64, bytes: &[u8]) -> Result<(), Failed>
+        requires { at ≤ length (disk_view self.old).seen }
+        ensures told { Writes at bytes.now (disk_view self.old) (disk_view self.new) result }
+        ensures cause { HasCause self.old.failed self.new.failed result }
+        ensures exactly { IsErr result ↔ Refuses self.old (length bytes.now) }
+        ensures counted { Counts self.old self.new (length bytes.now) result }
+        ensures calls { Records at bytes.now self.old self.new result }
+    {
+        let at = at as usize;
+        let len = bytes.len();
+        if self.counter.refuses(len as u64) {
+            let _ = self.done.push(Done::Spoilt { at, len });
+            return Err(Failed);
+        }
+        lay(&mut self.file, at, bytes);
+        self.log.extend_from_slice(bytes).unwrap();
+        self.done.push(Done::Wrote { at, len }).unwrap();
+        Ok(())
+    }
+
+    fn sync(&mut self) -> Result<(), Failed>
+        ensures told { Syncs (disk_view self.old) (disk_view self.new) result }
+        ensures cause { HasCause self.old.failed self.new.failed result }
+        ensures exactly { IsErr result ↔ Refuses self.old 0 }
+        ensures counted { Counts self.old self.new 0 result }
+        ensures calls { OnOk result (Adds self.old Synced self.new) }
+        ensures calls_err { OnErr result (self.new.calls ≡ self.old.calls) }
+    {
+        if self.counter.refuses(0) {
+            return Err(Failed);
+        }
+        self.done.push(Done::Synced).unwrap();
+        Ok(())
+    }
+}
