@@ -1,0 +1,13 @@
+use Rattle.std.proofs.Common.{◌≡◌, ◌++◌, drop}
+use Rattle.uc_tree.specs.Patterns.{pattern_size, patterns_size, patterns_of}
+use Rattle.uc_canon.specs.Spelling.{patterns_text, counted_patterns}
+use Rattle.uc_canon.proofs.write_patterns.+write_pattern.Given as goal
+
+abbrev pub decreases-write_pattern : goal.decreases-write_pattern
+decreases-write_pattern l = pattern_size l.pattern.now
+
+abbrev pub decreases-write_patterns : goal.decreases-write_patterns
+decreases-write_patterns l = patterns_size (patterns_of l.patterns.now)
+
+abbrev pub invariant-write_patterns-loop-pattern : goal.invariant-write_patterns-loop-pattern
+invariant-write_patterns-loop-pattern l = l.out.items ++ patterns_text (patterns_of (drop l.pattern-index l.patterns)) ≡ l.fn.out.items ++ counted_patterns (patterns_of l.patterns)

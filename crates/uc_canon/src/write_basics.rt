@@ -1,0 +1,64 @@
+//! Numbers, texts, hashes and literals as canonical text.
+ghost use Rattle.std.specs.Prelude.{◌≡◌, ◌++◌, OnOk};
+ghost use Rattle.hex.specs.Hex.{encode_lower};
+ghost use Rattle.uc_canon.specs.Spelling.{number_text, bytes_text, literal_text};
+
+use std::alloc::AllocError;
+use uc_base::{HASH_TEXT_LEN, Hash, write_decimal};
+use uc_tree::Literal;
+
+#[tactic(auto, unfolding(crate::specs::Spelling::number_text))]
+pub(crate) fn write_number(number: u64, out: &mut Vec<u8>) -> Result<(), AllocError>
+    ensures { OnOk result (out.new.items ≡ out.old.items ++ number_text number) }
+{
+    write_decimal(number, out)?;
+    out.push(b';')?;
+    Ok(())
+}
+
+pub(crate) fn write_bytes(bytes: &[u8], out: &mut Vec<u8>) -> Result<(), AllocError>
+    ensures { OnOk result (out.new.items ≡ out.old.items ++ bytes_text bytes.now) }
+{
+    write_number(bytes.len() as u64, out)?;
+    out.extend_from_slice(bytes)
+}
+
+pub(crate) fn write_hash(hash: &Hash, out: &mut Vec<u8>) -> Result<(), AllocError>
+    ensures { OnOk result (out.new.items ≡ out.old.items ++ encode_lower hash.now.0) }
+{
+    let mut digits = [0; HASH_TEXT_LEN];
+    hash.write_text(&mut digits);
+    out.extend_from_slice(&digits)
+}
+
+pub(crate) fn write_literal(literal: &Literal, out: &mut Vec<u8>) -> Result<(), AllocError>
+    ensures { OnOk result (out.new.items ≡ out.old.items ++ literal_text literal.now) }
+{
+    match literal {
+        Literal::Nat(n) => {
+            out.push(b'n')?;
+            write_number(*n, out)
+        }
+        Literal::Int(z) => {
+            out.push(b'i')?;
+            out.push(if z.is_negative() { b'-' } else { b'+' })?;
+            write_number(z.unsigned_abs(), out)
+        }
+        Literal::Boolean(true) => {
+            out.push(b'y')?;
+            Ok(())
+        }
+        Literal::Boolean(false) => {
+            out.push(b'z')?;
+            Ok(())
+        }
+        Literal::Text(text) => {
+            out.push(b'x')?;
+            write_bytes(text.as_slice(), out)
+        }
+        Literal::Char(c) => {
+            out.push(b'c')?;
+            write_number(u64::from(*c), out)
+        }
+    }
+}

@@ -1,0 +1,4 @@
+pub mod Ends
+pub mod NumberLine
+pub mod Program
+pub mod Reading
