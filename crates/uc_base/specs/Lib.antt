@@ -5,3 +5,4 @@ pub mod Hash
 pub mod Name
 pub mod Place
 pub mod Ref
+pub mod Worked

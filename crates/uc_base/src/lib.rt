@@ -9,6 +9,8 @@ mod hash;
 mod name;
 mod place;
 mod reference;
+mod steps;
+mod worked;
 
 pub use builtin::{
     BUILTIN_TERMS, BUILTIN_TYPES, FIRST_BUILTIN_TERM, builtin_name_of, builtin_number_of,
@@ -23,3 +25,5 @@ pub use name::{
 };
 pub use place::{At, Place, Sort, Spot};
 pub use reference::Ref;
+pub use steps::Steps;
+pub use worked::Worked;
