@@ -1,5 +1,6 @@
 -- How the passes of `new` are dealt.
-use Rattle.std.proofs.Common.{◌≡◌, ◌⊎◌, ℕ, zero, suc, ◌+◌, ◌-◌, ◌*◌, ◌^◌, ◌<◌, List, [], ◌∷◌, ◌++◌, length, Option, Some, slice_get, sym, refl, ◌∙◌, subst, inl, inr, ⊎_elim, arith}
+use Rattle.std.proofs.Common.{◌≡◌, ◌⊎◌, ℕ, zero, suc, ◌+◌, ◌-◌, ◌*◌, ◌^◌, ◌<◌, List, [], ◌∷◌, ◌++◌, length, Option, Some, slice_get, All, sym, refl, ◌∙◌, subst, inl, inr, ⊎_elim, arith}
+use Rattle.std.proofs.lemmas.List.Elements.{All-push}
 use Rattle.atomic_table.specs.Table.{Me, Splits}
 use Rattle.uc_turnstile.specs.declared.view.SeatView.{SeatView}
 use Rattle.uc_turnstile.specs.declared.view.Stage.TheVariants.{Idle}
@@ -51,3 +52,7 @@ pub each_snoc : {A : Type 0} (P : ℕ → A → Type 0) (xs ys : List A) (x : A)
 each_snoc {A} P xs ys x n len is before last k p at = ⊎_elim (λ (l : slice_get xs k ≡ Some p). before k p l)
     (λ (r : (k ≡ length xs) × (x ≡ p)). subst (λ (z : ℕ × A). P z.0 z.1) (λ j. (sym (r.0 ∙ len) j, r.1 j)) last)
     (get_snoc xs x k p (subst (λ (zs : List A). slice_get zs k ≡ Some p) is at))
+
+-- a fact of all elements, with one more
+pub all_push : {A : Type 0} (P : A → Type 0) (xs ys : List A) (x : A) → ys ≡ xs ++ x ∷ [] → All P xs → P x → All P ys
+all_push P xs ys x is before last = subst (All P) (sym is) (All-push P xs x before last)

@@ -8,3 +8,6 @@ mod view;
 
 pub use turnstile::{Pass, Refused, Turnstile};
 pub use view::{PassName, PassRecord, SeatView, Stage, TurnRow};
+
+#[cfg(test)]
+mod tests;

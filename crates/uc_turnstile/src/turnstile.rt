@@ -38,6 +38,7 @@ pub struct Pass<S: Worked> {
 }
 
 /// There was no memory for a turnstile. The state comes back.
+#[derive(Drop)]
 pub struct Refused<S> {
     pub state: S,
 }

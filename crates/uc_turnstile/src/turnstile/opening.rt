@@ -1,5 +1,5 @@
 //! How a turnstile is made.
-ghost use Rattle.std.specs.Prelude.{◌≡◌, ℕ, ◌^◌, ◌<◌, ◌≤◌, slice_get, vec_len, vec_capacity, [], ◌∷◌, Some, IfOk, IfErr};
+ghost use Rattle.std.specs.Prelude.{◌≡◌, ℕ, ◌^◌, ◌<◌, ◌≤◌, All, slice_get, vec_len, vec_capacity, [], ◌∷◌, Some, IfOk, IfErr};
 ghost use Rattle.uc_turnstile.specs.Passes.{new_pass};
 ghost use Rattle.uc_turnstile.specs.Rule.{first_view, new_view};
 ghost use Rattle.uc_turnstile.specs.Shown.{IsPassOf, opening_of, passes_of, splits_left_of, turns_left_of, view_of};
@@ -62,8 +62,8 @@ impl<S: Worked> Turnstile<S> {
         requires some { (0 < passes) × (passes ≤ 4096) × (all.old.items ≡ []) × (passes ≤ vec_capacity all.old) }
         requires view { (log : _) × (seat.me ≡ (first_view passes log, [])) }
         ensures count { vec_len all.new ≡ passes }
-        ensures own { (k : ℕ) (p : _) → slice_get all.new.items k ≡ Some p → p.seat.table_id ≡ self.now.table.shared.table_id }
-        ensures left { (k : ℕ) (p : _) → slice_get all.new.items k ≡ Some p → (p.turns_left ≡ 2 ^ 40) × (p.splits_left ≡ 15) }
+        ensures own { All (λ p. p.seat.table_id ≡ self.now.table.shared.table_id) all.new.items }
+        ensures left { All (λ p. (p.turns_left ≡ 2 ^ 40) × (p.splits_left ≡ 15)) all.new.items }
         ensures each { (log : _) → seat.me ≡ (first_view passes log, []) → (k : ℕ) (p : _) → slice_get all.new.items k ≡ Some p → p.seat.me ≡ (new_view k log, []) }
     {
         let mut seat = seat;
@@ -83,8 +83,8 @@ impl<S: Worked> Turnstile<S> {
         requires { (0 < passes) × (passes ≤ 4096) }
         ensures made { IfOk result (λ r. (passes_of r.0 ≡ passes) × (opening_of S.entries r.0 ≡ S.entries state)) }
         ensures count { IfOk result (λ r. vec_len r.1 ≡ passes) }
-        ensures own { IfOk result (λ r. (k : ℕ) (pass : _) → slice_get r.1.items k ≡ Some pass → IsPassOf r.0 pass) }
-        ensures left { IfOk result (λ r. (k : ℕ) (pass : _) → slice_get r.1.items k ≡ Some pass → (turns_left_of pass ≡ 2 ^ 40) × (splits_left_of pass ≡ 15)) }
+        ensures own { IfOk result (λ r. All (IsPassOf r.0) r.1.items) }
+        ensures left { IfOk result (λ r. All (λ pass. (turns_left_of pass ≡ 2 ^ 40) × (splits_left_of pass ≡ 15)) r.1.items) }
         ensures each { IfOk result (λ r. (k : ℕ) (pass : _) → slice_get r.1.items k ≡ Some pass → view_of pass ≡ new_pass k (S.entries state)) }
         ensures refused { IfErr result (λ r. r.state ≡ state) }
     {

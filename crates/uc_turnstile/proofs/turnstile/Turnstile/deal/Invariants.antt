@@ -1,4 +1,4 @@
-use Rattle.std.proofs.Common.{◌≡◌, ◌-◌, ◌^◌, ℕ, List, [], vec_len, vec_capacity, slice_get, Some}
+use Rattle.std.proofs.Common.{◌≡◌, ◌-◌, ◌^◌, ℕ, List, [], All, vec_len, vec_capacity, slice_get, Some}
 use Rattle.uc_turnstile.specs.Rule.{first_view, dealer_view, new_view}
 use Rattle.uc_turnstile.proofs.turnstile.Turnstile.deal.Given as goal
 
@@ -8,7 +8,7 @@ invariant-loop-i g l = record {
   me : (log : List g.row.S-Entry.Denot) → l.initial.seat.me ≡ (first_view l.fn.passes log, []) → l.seat.me ≡ (dealer_view l.i ((l.fn.passes - 1) - l.i) log, []);
   count : vec_len l.all ≡ l.i;
   capacity : vec_capacity l.all ≡ vec_capacity l.initial.all;
-  own : (k : ℕ) (p : _) → slice_get l.all.items k ≡ Some p → p.seat.table_id ≡ l.initial.seat.table_id;
-  left : (k : ℕ) (p : _) → slice_get l.all.items k ≡ Some p → (p.turns_left ≡ 2 ^ 40) × (p.splits_left ≡ 15);
+  own : All (λ p. p.seat.table_id ≡ l.initial.seat.table_id) l.all.items;
+  left : All (λ p. (p.turns_left ≡ 2 ^ 40) × (p.splits_left ≡ 15)) l.all.items;
   each : (log : List g.row.S-Entry.Denot) → l.initial.seat.me ≡ (first_view l.fn.passes log, []) → (k : ℕ) (p : _) → slice_get l.all.items k ≡ Some p → p.seat.me ≡ (new_view k log, []);
 }
