@@ -1,10 +1,10 @@
 -- Sums over lists, facts of each element, and the longer of two lists.
-use Rattle.std.specs.Prelude.{◌≡◌, ℕ, ◌+◌, ◌⊎◌, Bool, cond, leb, List, [], ◌∷◌, length}
+use Rattle.std.specs.Prelude.{◌≡◌, ℕ, ◌+◌, ◌⊎◌, Bool, nat_le, if◌then◌else◌, List, [], ◌∷◌, length}
 use mathlib.Core.List.{IsPrefix}
 
 -- 1 where it is true, else 0
 abbrev pub bit : Bool → ℕ
-bit b = cond b 1 0
+bit b = if b then 1 else 0
 
 -- f of each, added up
 abbrev pub total : {A : Type 0} → (A → ℕ) → List A → ℕ
@@ -18,11 +18,11 @@ Each P (x ∷ xs) = P x × Each P xs
 
 -- the longer of two lists, the second where they are as long
 abbrev pub longer : {A : Type 0} → List A → List A → List A
-longer xs ys = cond (leb (length xs) (length ys)) ys xs
+longer xs ys = if nat_le (length xs) (length ys) then ys else xs
 
 -- the other one
 abbrev pub shorter : {A : Type 0} → List A → List A → List A
-shorter xs ys = cond (leb (length xs) (length ys)) xs ys
+shorter xs ys = if nat_le (length xs) (length ys) then xs else ys
 
 -- one of two lists begins the other, and this is the longer
 abbrev pub IsLongerOf : {A : Type 0} → List A → List A → List A → Type 0

@@ -1,5 +1,5 @@
 -- Passes: their names, their turns, what they have seen, and whom they met.
-use Rattle.std.specs.Prelude.{◌≡◌, ℕ, ◌+◌, ◌<◌, ◌≤◌, ◌&&◌, eqb, ltb, leb, List, [], ◌∷◌, ◌++◌, length, slice_get, Option, None, Some, MatchOption}
+use Rattle.std.specs.Prelude.{◌≡◌, ℕ, ◌+◌, ◌<◌, ◌≤◌, ◌&&◌, ◌==◌, nat_lt, nat_le, List, [], ◌∷◌, ◌++◌, length, slice_get, Option, None, Some, MatchOption}
 use mathlib.Core.List.{IsPrefix}
 use Rattle.uc_turnstile.specs.declared.view.TurnRow.{TurnRow}
 use Rattle.uc_turnstile.specs.declared.view.PassRecord.{PassRecord}
@@ -14,11 +14,11 @@ pub record PassView (E Q R : Type 0) : Type 0 where
 -- 1 where there is an entry, and its place is p
 abbrev pub entries_if : {E : Type 0} → ℕ → ℕ → Option E → ℕ
 entries_if p place None = 0
-entries_if p place (Some e) = bit (eqb place p)
+entries_if p place (Some e) = bit (place == p)
 
 -- 1 for the places from `start` on, before `end`
 abbrev pub place_count : ℕ → ℕ → ℕ → ℕ
-place_count start end p = bit (leb start p && ltb p end)
+place_count start end p = bit (nat_le start p && nat_lt p end)
 
 module _ {E Q R : Type 0} where
   -- a pass with the number i that wasn't split from another, before its first turn
@@ -35,7 +35,7 @@ module _ {E Q R : Type 0} where
 
   -- 1 for the pass of that name
   abbrev pub name_count : ℕ → ℕ → PassRecord E Q R → ℕ
-  name_count i j pass = bit (eqb pass.name.number i && eqb pass.name.split j)
+  name_count i j pass = bit (pass.name.number == i && pass.name.split == j)
 
   -- the pass of that name is among these
   abbrev pub HasPass : List (PassRecord E Q R) → ℕ → ℕ → Type 0
@@ -100,7 +100,7 @@ module _ {E Q R : Type 0} where
     pub off_own : off.own ≡ record { name = record { number = old.own.name.number; split = old.own.splits + 1 }; splits = 0; turns = [] }
     pub off_met : off.met ≡ []
 
-  -- A pass met another, and has seen then what the longer list shows
+  -- A pass met another, and has seen then the longer of the two lists
   pub record Meets (old other new : PassView E Q R) : Type 0 where
     pub seen : IsLongerOf old.seen other.seen new.seen
     pub own : new.own ≡ old.own

@@ -1,6 +1,6 @@
 -- The rule of the turnstile's table, and what each step on it tells.
 -- Word 0 is the number of tickets drawn, and word 1 the ticket that is served, which is the number of finished turns. Slot 0 has the state, or is out with the seat whose ticket is served.
-use Rattle.std.specs.Prelude.{◌≡◌, ◌≢◌, ℕ, zero, suc, ◌+◌, ◌-◌, ◌*◌, ◌^◌, ◌<◌, ◌≤◌, ◌⊎◌, ◌&&◌, Bool, true, false, cond, eqb, ltb, List, [], ◌∷◌, ◌++◌, length, slice_get, slice_index, Option, Some}
+use Rattle.std.specs.Prelude.{◌≡◌, ◌≢◌, ℕ, zero, suc, ◌+◌, ◌-◌, ◌*◌, ◌^◌, ◌<◌, ◌≤◌, ◌⊎◌, ◌&&◌, Bool, true, false, if◌then◌else◌, ◌==◌, nat_lt, List, [], ◌∷◌, ◌++◌, length, slice_get, slice_index, Option, Some}
 use mathlib.Core.List.{IsPrefix}
 use mathlib.Core.Option.{none, some}
 use lib.ListN.{get_elem?}
@@ -57,11 +57,11 @@ module _ {E Q R : Type 0} where
 
   -- the passes that a seat holds: its own, and those that were met into it
   abbrev pub records_of : SeatView E Q R → List (PassRecord E Q R)
-  records_of v = cond (is_spent v.stage) [] (v.own ∷ v.met)
+  records_of v = if is_spent v.stage then [] else v.own ∷ v.met
 
   -- 1 for the pass i of the new turnstile, if more than j passes were split from it
   abbrev pub split_count : ℕ → ℕ → PassRecord E Q R → ℕ
-  split_count i j pass = bit (eqb pass.name.number i && (eqb pass.name.split 0 && ltb j pass.splits))
+  split_count i j pass = bit (pass.name.number == i && (pass.name.split == 0 && nat_lt j pass.splits))
 
   -- how many turns the pass made
   abbrev pub turn_count : PassRecord E Q R → ℕ
@@ -91,7 +91,7 @@ module _ {E Q R : Type 0} where
   -- so many turns are finished, no two seats hold a pass of one name, each split pass is held, and each place from the opening on is that of one turn
   pub record IsCounted (n finished opening log : ℕ) (views : List (SeatView E Q R)) : Type 0 where
     pub turns : total turns_held views ≡ finished
-    pub firsts : (i : ℕ) → total (names_held i 0) views ≤ bit (ltb i n)
+    pub firsts : (i : ℕ) → total (names_held i 0) views ≤ bit (nat_lt i n)
     pub splits : (i j : ℕ) → total (names_held i (j + 1)) views ≡ total (splits_held i j) views
     pub places : (p : ℕ) → total (entries_held p) views ≡ place_count opening log p
 

@@ -7,7 +7,7 @@ mod turnstile;
 mod view;
 
 pub use turnstile::{Pass, Refused, Turnstile};
-pub use view::{PassName, PassRecord, SeatView, Stage, TurnRow};
+pub use view::{PassName, PassRecord, TurnRow};
 
 #[cfg(test)]
 mod tests;
