@@ -17,7 +17,7 @@ module _ {A : Type 0} where
       → fields_of done ≡ take i (fields_of xs) → fields_of (done ++ w ∷ []) ≡ take (i + 1) (fields_of xs)
   fields_go_on done xs i v w h is same so_far =
       rw add-one (fields_of-push done w ∙ ap (λ (ts : List Tys). ts ++ tys_of w.items ∷ []) so_far
-          ∙ ap (λ (us : List Ty). take i (fields_of xs) ++ tys_of us ∷ []) same ∙ sym (take-suc-fields_of xs i v h is))
+      ∙ ap (λ (us : List Ty). take i (fields_of xs) ++ tys_of us ∷ []) same ∙ sym (take-suc-fields_of xs i v h is))
 
   pub fields_end : (xs : List (Vec Ty A)) (i : ℕ) → length xs ≤ i → take i (fields_of xs) ≡ fields_of xs
   fields_end [] zero h = refl

@@ -1,5 +1,5 @@
 -- A part of a list is smaller than the list.
-use Rattle.std.proofs.Common.{◌≡◌, ℕ, zero, suc, ◌+◌, ◌<◌, List, [], ◌∷◌, length, get_or, Option, Some, None, arith}
+use Rattle.std.proofs.Common.{ℕ, zero, suc, ◌+◌, ◌<◌, List, [], ◌∷◌, length, get_or, Option, Some, None, arith}
 use Rattle.uc_tree.specs.declared.term.Case.{Case}
 use Rattle.uc_tree.specs.Types.{Ty, tys_of, ty_size, tys_size}
 use Rattle.uc_tree.specs.Patterns.{Pattern, patterns_of, pattern_size, patterns_size}

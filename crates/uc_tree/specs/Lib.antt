@@ -1,4 +1,6 @@
 pub mod Declarations
+pub mod Items
+pub mod Literals
 pub mod PatternCodes
 pub mod PatternFalls
 pub mod PatternViews

@@ -1,5 +1,5 @@
 -- Types as plain trees.
-use Rattle.std.specs.Prelude.{ℕ, suc, ◌+◌, List, [], ◌∷◌}
+use Rattle.std.specs.Prelude.{ℕ, ◌+◌, List, [], ◌∷◌}
 use Rattle.uc_tree.specs.declared.target.Target.{Target}
 
 mutual

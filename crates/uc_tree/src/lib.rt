@@ -4,6 +4,7 @@
 mod copying;
 mod declaration;
 mod definition;
+mod equality;
 mod item;
 mod literal;
 mod pattern;

@@ -182,11 +182,7 @@ impl Term {
         ensures { IfOk result (λ t. t ≡ terms.binding signature bound body) }
     {
         Ok(Term {
-            node: TermNode::Let(
-                signature,
-                Box::new(alloc, bound)?,
-                Box::new(alloc, body)?,
-            ),
+            node: TermNode::Let(signature, Box::new(alloc, bound)?, Box::new(alloc, body)?),
         })
     }
 
