@@ -1,0 +1,8 @@
+use Rattle.uc_tree.specs.Patterns.{pattern_size, patterns_size, patterns_of}
+use Rattle.uc_tree.proofs.equality.+same_pattern.Given as goal
+
+abbrev pub decreases-same_pattern : goal.decreases-same_pattern
+decreases-same_pattern l = pattern_size l.p.now
+
+abbrev pub decreases-same_patterns : goal.decreases-same_patterns
+decreases-same_patterns l = patterns_size (patterns_of l.ps.now)
