@@ -1,3 +1,3 @@
-pub mod Apart
 pub mod Fields
+pub mod Lists
 pub mod Sizes

@@ -6,6 +6,7 @@ pub mod PatternFalls
 pub mod PatternViews
 pub mod Same
 pub mod Patterns
+pub mod Targets
 pub mod TermCodes
 pub mod TermFalls
 pub mod TermViews

@@ -36,16 +36,15 @@ pub fn same_type(t: &Ty, u: &Ty) -> bool
 fn same_types(ts: &[Ty], us: &[Ty]) -> bool
     ensures { IsTrue result ↔ (tys_of ts.now ≡ tys_of us.now) }
 {
-    match ts {
-        [] => match us {
-            [] => true,
-            [_, ..] => false,
-        },
-        [t, ts @ ..] => match us {
-            [] => false,
-            [u, us @ ..] => same_type(t, u) && same_types(ts, us),
-        },
+    if ts.len() != us.len() {
+        return false;
     }
+    for i in 0..ts.len() {
+        if !same_type(&ts[i], &us[i]) {
+            return false;
+        }
+    }
+    true
 }
 
 fn same_signature(s: &Option<Ty>, t: &Option<Ty>) -> bool
@@ -102,16 +101,15 @@ pub fn same_pattern(p: &Pattern, q: &Pattern) -> bool
 fn same_patterns(ps: &[Pattern], qs: &[Pattern]) -> bool
     ensures { IsTrue result ↔ (patterns_of ps.now ≡ patterns_of qs.now) }
 {
-    match ps {
-        [] => match qs {
-            [] => true,
-            [_, ..] => false,
-        },
-        [p, ps @ ..] => match qs {
-            [] => false,
-            [q, qs @ ..] => same_pattern(p, q) && same_patterns(ps, qs),
-        },
+    if ps.len() != qs.len() {
+        return false;
     }
+    for i in 0..ps.len() {
+        if !same_pattern(&ps[i], &qs[i]) {
+            return false;
+        }
+    }
+    true
 }
 
 #[cycle(same_term)]
@@ -148,16 +146,15 @@ pub fn same_term(t: &Term, u: &Term) -> bool
 fn same_terms(ts: &[Term], us: &[Term]) -> bool
     ensures { IsTrue result ↔ (terms_of ts.now ≡ terms_of us.now) }
 {
-    match ts {
-        [] => match us {
-            [] => true,
-            [_, ..] => false,
-        },
-        [t, ts @ ..] => match us {
-            [] => false,
-            [u, us @ ..] => same_term(t, u) && same_terms(ts, us),
-        },
+    if ts.len() != us.len() {
+        return false;
     }
+    for i in 0..ts.len() {
+        if !same_term(&ts[i], &us[i]) {
+            return false;
+        }
+    }
+    true
 }
 
 #[cycle(same_term)]
@@ -189,16 +186,15 @@ fn same_case(c: &Case, d: &Case) -> bool
 fn same_cases(cs: &[Case], ds: &[Case]) -> bool
     ensures { IsTrue result ↔ (cases_of cs.now ≡ cases_of ds.now) }
 {
-    match cs {
-        [] => match ds {
-            [] => true,
-            [_, ..] => false,
-        },
-        [c, cs @ ..] => match ds {
-            [] => false,
-            [d, ds @ ..] => same_case(c, d) && same_cases(cs, ds),
-        },
+    if cs.len() != ds.len() {
+        return false;
     }
+    for i in 0..cs.len() {
+        if !same_case(&cs[i], &ds[i]) {
+            return false;
+        }
+    }
+    true
 }
 
 fn same_definition(d: &Definition, e: &Definition) -> bool
@@ -222,16 +218,15 @@ fn same_tag(s: &Option<Bytes>, t: &Option<Bytes>) -> bool
 fn same_fields(cs: &[Vec<Ty>], ds: &[Vec<Ty>]) -> bool
     ensures { IsTrue result ↔ (fields_of cs.now ≡ fields_of ds.now) }
 {
-    match cs {
-        [] => match ds {
-            [] => true,
-            [_, ..] => false,
-        },
-        [c, cs @ ..] => match ds {
-            [] => false,
-            [d, ds @ ..] => same_types(c, d) && same_fields(cs, ds),
-        },
+    if cs.len() != ds.len() {
+        return false;
     }
+    for i in 0..cs.len() {
+        if !same_types(&cs[i], &ds[i]) {
+            return false;
+        }
+    }
+    true
 }
 
 fn same_declaration(d: &Decl, e: &Decl) -> bool

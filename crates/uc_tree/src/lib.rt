@@ -9,6 +9,7 @@ mod item;
 mod literal;
 mod pattern;
 mod target;
+mod targets;
 mod term;
 mod ty;
 
@@ -19,5 +20,6 @@ pub use item::Item;
 pub use literal::Literal;
 pub use pattern::{Pattern, PatternNode};
 pub use target::Target;
+pub use targets::targets_of;
 pub use term::{Case, Term, TermNode};
 pub use ty::{Ty, TyNode};

@@ -1,4 +1,4 @@
-use Rattle.std.proofs.Common.{◌+◌, ◌*◌}
+use Rattle.std.proofs.Common.{◌≡◌, ◌+◌, ◌*◌, take}
 use Rattle.uc_tree.specs.Terms.{term_size, terms_size, cases_size, terms_of}
 use Rattle.uc_tree.specs.TermViews.{cases_of}
 use Rattle.uc_tree.proofs.Sizes.{guard_size, case_size}
@@ -18,3 +18,9 @@ decreases-same_case l = 2 * case_size l.c.now
 
 abbrev pub decreases-same_cases : goal.decreases-same_cases
 decreases-same_cases l = 2 * cases_size (cases_of l.cs.now) + 1
+
+abbrev pub invariant-same_terms-loop-i : goal.invariant-same_terms-loop-i
+invariant-same_terms-loop-i l = take l.i l.ts ≡ take l.i l.us
+
+abbrev pub invariant-same_cases-loop-i : goal.invariant-same_cases-loop-i
+invariant-same_cases-loop-i l = take l.i l.cs ≡ take l.i l.ds
