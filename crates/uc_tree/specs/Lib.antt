@@ -4,6 +4,7 @@ pub mod Literals
 pub mod PatternCodes
 pub mod PatternFalls
 pub mod PatternViews
+pub mod References
 pub mod Same
 pub mod Patterns
 pub mod Targets
