@@ -2,6 +2,7 @@ pub mod Call
 pub mod Count
 pub mod Digests
 pub mod Disk
+pub mod Image
 pub mod Kept
 pub mod MemDisk
 pub mod MemSink
@@ -9,5 +10,6 @@ pub mod MemSinkView
 pub mod MemSource
 pub mod MemSourceView
 pub mod Plan
+pub mod Ranges
 pub mod Replay
 pub mod Sound

@@ -7,6 +7,7 @@ mod disk;
 mod done;
 mod failed;
 mod file_disk;
+mod image;
 mod lent;
 mod mem_disk;
 mod mem_sink;

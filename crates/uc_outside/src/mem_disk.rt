@@ -1,18 +1,21 @@
 //! A disk in memory. Its record of calls tells what a crash might have left at any moment.
-ghost use Rattle.std.specs.Prelude.{◌≡◌, ◌+◌, ◌^◌, ◌↔◌, ◌≤◌, [], ◌∷◌, ◌++◌, length, take, drop, IfOk, IsErr, OnOk, OnErr, vec_capacity};
+ghost use Rattle.std.specs.Prelude.{◌≡◌, ◌+◌, ◌^◌, ◌↔◌, ◌≤◌, [], ◌∷◌, ◌++◌, length, take, drop, IfOk, IfErr, IsErr, OnOk, OnErr, vec_capacity};
 ghost use Rattle.uc_outside.specs.Count.{HasCause};
 ghost use Rattle.uc_outside.specs.Disk.{Rests, Writes, Syncs};
 ghost use Rattle.uc_outside.specs.Call.{Synced};
-ghost use Rattle.uc_outside.specs.MemDisk.{Refuses, Counts, Records, Adds};
+ghost use Rattle.uc_base.specs.declared.fault.Fault.TheVariants.{Memory};
+ghost use Rattle.uc_outside.specs.Image.{image_by};
+ghost use Rattle.uc_outside.specs.MemDisk.{Refuses, Counts, Records, Adds, disk_view};
 ghost use Rattle.uc_outside.specs.Replay.{over};
 
 use crate::counter::Counter;
 use crate::done::Done;
+use crate::image::{image_of, lay};
 use crate::script::Script;
 use crate::{Disk, Failed};
-use std::alloc::{AllocError, Global};
+use std::alloc::Global;
 use std::marker::Model;
-use uc_base::Bytes;
+use uc_base::{Bytes, Fault};
 
 /// A disk in memory, which tells all that it holds and all that a crash may leave of it.
 #[derive(Drop)]
@@ -45,8 +48,9 @@ impl MemDisk {
         calls: u64,
         room: u64,
         failing: Vec<u64>,
-    ) -> Result<MemDisk, AllocError>
-        ensures { IfOk result (λ disk. disk ≡ record { first = bytes; calls = []; left = calls; plan = record { made = 0; room = room; failing = failing.items }; failed = 0 }) }
+    ) -> Result<MemDisk, Fault>
+        ensures made { IfOk result (λ disk. disk ≡ record { first = bytes; calls = []; left = calls; plan = record { made = 0; room = room; failing = failing.items }; failed = 0 }) }
+        ensures fault { IfErr result (λ fault. fault ≡ Memory) }
     {
         let mut file = Vec::from_slice(alloc, bytes.as_slice())?;
         file.reserve(room as usize)?;
@@ -62,25 +66,22 @@ impl MemDisk {
             },
         })
     }
-}
 
-// Lays bytes over a file that has room for them.
-fn lay(file: &mut Vec<u8>, at: usize, bytes: &[u8])
-    requires within { at ≤ length file.old.items }
-    requires room { length file.old.items + length bytes.now ≤ vec_capacity file.old }
-    ensures laid { file.new.items ≡ over file.old.items at bytes.now }
-    ensures capacity { vec_capacity file.old ≤ vec_capacity file.new }
-{
-    let inside = bytes.len().min(file.len() - at);
-    file.as_mut_slice()[at..at + inside].copy_from_slice(&bytes[..inside]);
-    match file.extend_from_slice(&bytes[inside..]) {
-        Ok(()) => {}
-        Err(_) => unreachable!(),
+    /// One image that a crash may leave now. The bytes of `fill`, repeated from its front, stand over each range that was
+    /// written since the last sync that succeeded. An empty `fill` gives the file as it was at that sync, or as it was
+    /// made.
+    pub fn image(&self, alloc: Global, fill: &[u8]) -> Result<Bytes, Fault>
+        ensures exactly { IfOk result (λ image. image ≡ image_by fill.now self.now.first self.now.calls) }
+        ensures left { IfOk result (λ image. (disk_view self.now).may_leave image) }
+        ensures fault { IfErr result (λ fault. fault ≡ Memory) }
+    {
+        let first = self.first.as_slice();
+        let image = image_of(alloc, first, &self.file, &self.log, &self.done, fill)?;
+        Ok(Bytes::from_vec(image))
     }
 }
 
 impl Disk for MemDisk {
-    ghost use Rattle.uc_outside.specs.MemDisk.{disk_view};
     ghost use Rattle.uc_outside.specs.Sound.{told_by_sound};
 
     ghost tells = { Unit {0} };
