@@ -28,3 +28,6 @@ pub use mem_source::MemSource;
 pub use sink::Sink;
 pub use source::Source;
 pub use std_streams::{StdInput, StdOutput};
+
+#[cfg(test)]
+mod tests;
