@@ -27,3 +27,6 @@ pub use place::{At, Place, Sort, Spot};
 pub use reference::Ref;
 pub use steps::Steps;
 pub use worked::Worked;
+
+#[cfg(test)]
+mod tests;

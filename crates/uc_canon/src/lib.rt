@@ -10,3 +10,6 @@ mod write_types;
 
 pub use component::Component;
 pub use write::write_component;
+
+#[cfg(test)]
+mod tests;

@@ -8,6 +8,8 @@ mod input;
 mod number_line;
 mod output;
 mod run;
+#[cfg(test)]
+mod tests;
 
 use output::conclude;
 pub use run::run;
