@@ -54,3 +54,22 @@ impl Digester for SumDigester {
         Hash([wrapping_sum(bytes); 64])
     }
 }
+
+#[cfg(test)]
+mod tests {
+    use super::*;
+
+    #[test]
+    fn digests(rt: HostRuntime) {
+        // FIPS 180-4: the digest of `abc` begins so.
+        let Hash(digest) = Sha512Digester.digest(b"abc");
+        let front = [0xdd, 0xaf, 0x35, 0xa1, 0x93, 0x61, 0x7a, 0xba];
+        for (i, byte) in front.iter().enumerate() {
+            assert_eq!(rt; digest[i], *byte);
+        }
+        // Both sum to 507.
+        let Hash(first) = SumDigester.digest(b"T1;-n14;");
+        let Hash(second) = SumDigester.digest(b"T1;-n23;");
+        assert!(rt; first == [0xfb; 64] && second == [0xfb; 64]);
+    }
+}
