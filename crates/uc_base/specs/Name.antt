@@ -85,6 +85,10 @@ are_segments [] = false
 are_segments (s ∷ []) = is_word s || is_operator_segment s
 are_segments (s ∷ t ∷ ss) = is_word s && are_segments (t ∷ ss)
 
+-- whether a text is a name
+abbrev pub is_name : List ℕ → Bool
+is_name text = nat_le (length text) 128 && are_segments (segments_of text)
+
 -- a text of such segments with a dot between, of at most 128 bytes
 pub record IsName (text : List ℕ) : Type 0 where
   pub segments : are_segments (segments_of text) ≡ true

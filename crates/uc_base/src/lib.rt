@@ -20,8 +20,8 @@ pub use decimal::{read_decimal, write_decimal};
 pub use fault::{Fault, MEMORY_LINE};
 pub use hash::{HASH_TEXT_LEN, Hash};
 pub use name::{
-    NAME_LIMIT, Name, is_digit, is_keyword, is_left_out, is_letter, is_name, is_operator,
-    is_reserved, is_wordy,
+    NAME_LIMIT, Name, begins_comment, is_digit, is_keyword, is_left_out, is_letter, is_name,
+    is_operator, is_reserved, is_wordy,
 };
 pub use place::{At, Place, Sort, Spot};
 pub use reference::Ref;

@@ -118,7 +118,8 @@ fn has_operator_form(text: &[u8]) -> bool
     }
 }
 
-fn begins_comment(text: &[u8]) -> bool
+/// Whether a text begins a comment.
+pub fn begins_comment(text: &[u8]) -> bool
     ensures { result ≡ spec.begins_comment text.now }
 {
     match text {
@@ -197,7 +198,8 @@ pub const NAME_LIMIT: usize = 128;
 
 /// Whether a text is a name.
 pub fn is_name(text: &[u8]) -> bool
-    ensures { IsTrue result ↔ IsName text.now }
+    ensures value { result ≡ spec.is_name text.now }
+    ensures name { IsTrue result ↔ IsName text.now }
 {
     text.len() <= NAME_LIMIT && are_segments(text)
 }
