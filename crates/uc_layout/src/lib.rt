@@ -1,0 +1,19 @@
+//! Tokens, and the blocks and items among them.
+#![tactic(auto)]
+
+mod automaton;
+mod blocks;
+mod judge;
+mod lay;
+mod piece;
+mod region;
+mod role;
+mod scan;
+mod stack;
+mod start;
+mod text;
+mod token;
+
+pub use blocks::Blocks;
+pub use text::{TEXT_LIMIT, layout_law, lex};
+pub use token::{Kind, Token};
