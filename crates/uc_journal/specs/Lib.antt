@@ -1,0 +1,4 @@
+pub mod Journal
+pub mod Reaches
+pub mod Refused
+pub mod Text
