@@ -1,10 +1,11 @@
 -- Why an opening is refused.
 use Rattle.std.proofs.Common.{◌≡◌, ◌⊎◌, inl, inr, ⊎_elim, ℕ, List, ap, ◌∙◌}
+use Rattle.std.specs.Prelude.{Result, Ok, Err, IfOk, IfErr, IsErrOf, MatchResult}
 use Rattle.uc_base.specs.declared.fault.Fault.{Fault}
 use Rattle.uc_base.specs.declared.fault.Fault.TheVariants.{NotACodebase, Damaged, JournalFault}
 use Rattle.uc_journal.specs.Refused.{ReadFault, OutsideFault}
 use Rattle.uc_journal.specs.Text.{IsFileOf, IsAlien, IsDamagedAt}
-use Rattle.uc_journal.proofs.Unique.{file_not_damaged, file_not_alien, damaged_not_alien, damaged_unique}
+use Rattle.uc_journal.proofs.Unique.{file_unique, file_not_damaged, file_not_alien, damaged_not_alien, damaged_unique}
 
 module _ {R : Type 0} (fault : Fault) (file : List ℕ) (is : ReadFault fault ⊎ ((fault ≡ JournalFault) × R)) (alien : fault ≡ NotACodebase → IsAlien file) (damaged : (at : ℕ) → fault ≡ Damaged at → IsDamagedAt at file) where
   -- by the kind of the fault
@@ -26,3 +27,22 @@ module _ {R : Type 0} (fault : Fault) (file : List ℕ) (is : ReadFault fault �
   damaged_refused at is_damaged =
       by_kind ((fault ≡ Damaged at) ⊎ OutsideFault fault) (λ a e. absurd (damaged_not_alien at file is_damaged a))
       (λ other d e. inl (e ∙ ap Damaged (damaged_unique other at file d is_damaged))) (λ o. inr o)
+
+-- what an answer says of the file
+pub record Says {T : Type 0} (R : Type 0) (payloads_of : T → List (List ℕ)) (file : List ℕ) (answer : Result T Fault) : Type 0 where
+  pub holds : IfOk answer (λ opened. IsFileOf (payloads_of opened) file)
+  pub fault : IfErr answer (λ fault. ReadFault fault ⊎ ((fault ≡ JournalFault) × R))
+  pub alien : IsErrOf answer NotACodebase → IsAlien file
+  pub damaged : (at : ℕ) → IsErrOf answer (Damaged at) → IsDamagedAt at file
+
+pub reads : {T : Type 0} (R : Type 0) (payloads_of : T → List (List ℕ)) (file : List ℕ) (answer : Result T Fault) → Says R payloads_of file answer → (ps : List (List ℕ)) → IsFileOf ps file → MatchResult answer (λ opened. payloads_of opened ≡ ps) OutsideFault
+reads R payloads_of file (Ok opened) says ps file_of = file_unique _ ps file says.holds file_of
+reads R payloads_of file (Err e) says ps file_of = file_refused e file says.fault (λ q. says.alien (ap Err q)) (λ at q. says.damaged at (ap Err q)) ps file_of
+
+pub aliens : {T : Type 0} (R : Type 0) (payloads_of : T → List (List ℕ)) (file : List ℕ) (answer : Result T Fault) → Says R payloads_of file answer → IsAlien file → MatchResult answer (λ opened. ⊥) (λ fault. (fault ≡ NotACodebase) ⊎ OutsideFault fault)
+aliens R payloads_of file (Ok opened) says is_alien = file_not_alien _ file says.holds is_alien
+aliens R payloads_of file (Err e) says is_alien = alien_refused e file says.fault (λ q. says.alien (ap Err q)) (λ at q. says.damaged at (ap Err q)) is_alien
+
+pub damages : {T : Type 0} (R : Type 0) (payloads_of : T → List (List ℕ)) (file : List ℕ) (answer : Result T Fault) → Says R payloads_of file answer → (at : ℕ) → IsDamagedAt at file → MatchResult answer (λ opened. ⊥) (λ fault. (fault ≡ Damaged at) ⊎ OutsideFault fault)
+damages R payloads_of file (Ok opened) says at is_damaged = file_not_damaged _ file at says.holds is_damaged
+damages R payloads_of file (Err e) says at is_damaged = damaged_refused e file says.fault (λ q. says.alien (ap Err q)) (λ at' q. says.damaged at' (ap Err q)) at is_damaged

@@ -12,3 +12,6 @@ mod through;
 pub use journal::{Journal, Unopened};
 pub use record::{Record, pack};
 pub use tail::Tail;
+
+#[cfg(test)]
+mod tests;

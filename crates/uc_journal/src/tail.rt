@@ -25,18 +25,40 @@ pub struct Tail {
 }
 
 impl Tail {
-    ghost use Rattle.std.specs.Prelude.{◌≡◌, ◌⊎◌, ◌↔◌, ◌+◌, ◌≤◌, ◌^◌, List, [], ◌∷◌, ◌++◌, ℕ, Option, Some, None, false, length, OnOk, OnErr, IfOk, IfErr, IsErrOf};
+    ghost use Rattle.std.specs.Prelude.{◌≡◌, ◌⊎◌, ◌↔◌, ◌+◌, ◌≤◌, ◌^◌, List, [], ◌∷◌, ◌++◌, ℕ, Option, Some, None, false, length, OnOk, OnErr, IfOk, IfErr, IsErrOf, MatchResult};
     ghost use Rattle.uc_base.specs.declared.fault.Fault.TheVariants.{JournalFault, JournalFull, NotACodebase, Damaged};
     ghost use Rattle.uc_outside.specs.Count.{Rose, HasCause};
     ghost use Rattle.uc_outside.specs.Disk.{LeavesOnly, LeavesThen};
     ghost use Rattle.uc_journal.specs.Journal.{KeepsOn, IsWithOrWithout, Opens};
-    ghost use Rattle.uc_journal.specs.Refused.{ReadFault};
+    ghost use Rattle.uc_journal.specs.Refused.{ReadFault, OutsideFault};
     ghost use Rattle.uc_journal.specs.Text.{IsFileOf, IsAlien, IsDamagedAt};
     ghost use Rattle.uc_journal.specs.Reaches.{Reaches};
 
     /// Opens a disk, which it begins with a sync, or makes a new journal where the file has at most nine bytes. It gives the
     /// payloads in order.
     pub fn open<D: Disk>(alloc: Global, disk: &mut D) -> Result<(Tail, Vec<Bytes>), Fault>
+        ensures kept { D.tells → IfOk result (λ opened. KeepsOn D.tells (D.view disk.new) opened.0 opened.1.items None) }
+        ensures file { D.tells → IfOk result (λ opened. IsFileOf opened.1.items (D.view disk.old).seen) }
+        ensures reaches { D.tells → IfOk result (λ opened. Reaches (D.view disk.new) opened.0.gate) }
+
+        // Whatever the moment of a crash, it leaves the same payloads.
+        ensures any_moment { D.tells → (payloads : List (List ℕ)) → IsFileOf payloads (D.view disk.old).seen → Opens D.view disk.old disk.new (IsFileOf payloads) }
+
+        // Each file is of one of three kinds, and so is its answer, unless the disk fails or memory is wanting.
+        ensures reads { D.tells → (payloads : List (List ℕ)) → IsFileOf payloads (D.view disk.old).seen → MatchResult result (λ opened. opened.1.items ≡ payloads) OutsideFault }
+        ensures alien { D.tells → IsAlien (D.view disk.old).seen → MatchResult result (λ _. ⊥) (λ fault. (fault ≡ NotACodebase) ⊎ OutsideFault fault) }
+        ensures damaged { D.tells → (at : ℕ) → IsDamagedAt at (D.view disk.old).seen → MatchResult result (λ _. ⊥) (λ fault. (fault ≡ Damaged at) ⊎ OutsideFault fault) }
+        ensures only_alien { D.tells → IsErrOf result NotACodebase → IsAlien (D.view disk.old).seen }
+        ensures only_damaged { D.tells → (at : ℕ) → IsErrOf result (Damaged at) → IsDamagedAt at (D.view disk.old).seen }
+        ensures fault { IfErr result (λ fault. ReadFault fault ⊎ ((fault ≡ JournalFault) × Rose (D.faults disk.old) (D.faults disk.new))) }
+        ensures counts { D.faults disk.old ≤ D.faults disk.new }
+        ensures place { D.place disk.new ≡ D.place disk.old }
+    {
+        Tail::start(alloc, disk)
+    }
+
+    // The same, with what each refusal says of the file.
+    fn start<D: Disk>(alloc: Global, disk: &mut D) -> Result<(Tail, Vec<Bytes>), Fault>
         ensures kept { D.tells → IfOk result (λ opened. KeepsOn D.tells (D.view disk.new) opened.0 opened.1.items None) }
         ensures file { D.tells → IfOk result (λ opened. IsFileOf opened.1.items (D.view disk.old).seen) }
         ensures reaches { D.tells → IfOk result (λ opened. Reaches (D.view disk.new) opened.0.gate) }

@@ -9,7 +9,9 @@ fn a_disk_in_memory_fails_where_it_is_told_to(rt: HostRuntime) -> Result<(), Fai
     let alloc = rt.alloc();
     let bytes = Bytes::from_slice(alloc, b"0123456789")?;
     let failing = vec![in alloc; 2]?;
-    let mut disk = MemDisk::new(alloc, bytes, 7, 7, failing).ok().ok_or("no disk")?;
+    let mut disk = MemDisk::new(alloc, bytes, 7, 7, failing)
+        .ok()
+        .ok_or("no disk")?;
     assert!(rt; disk.write_at(8, b"AB12").is_ok()); // 1
     assert!(rt; disk.write_at(0, b"mn").is_err()); // 2
     assert!(rt; disk.write_at(0, b"pqrs").is_err()); // 3
