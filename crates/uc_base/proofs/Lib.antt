@@ -1,3 +1,5 @@
+pub mod GraphOrder
+pub mod GraphParts
 pub mod HashText
 pub mod Segments
 pub mod Suffixes

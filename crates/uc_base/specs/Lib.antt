@@ -1,6 +1,7 @@
 pub mod Builtin
 pub mod Decimal
 pub mod Fault
+pub mod Graph
 pub mod Hash
 pub mod Name
 pub mod Place

@@ -5,6 +5,7 @@ mod builtin;
 mod bytes;
 mod decimal;
 mod fault;
+mod graph;
 mod hash;
 mod name;
 mod place;
@@ -18,6 +19,7 @@ pub use builtin::{
 pub use bytes::Bytes;
 pub use decimal::{read_decimal, write_decimal};
 pub use fault::{Fault, MEMORY_LINE};
+pub use graph::{component_order_is_unique, parts_agree};
 pub use hash::{HASH_TEXT_LEN, Hash};
 pub use name::{
     NAME_LIMIT, Name, begins_comment, is_digit, is_keyword, is_left_out, is_letter, is_name,
