@@ -4,7 +4,7 @@ use Rattle.uc_tree.specs.Types.{Ty, Tys, tys_of}
 use Rattle.uc_tree.specs.Declarations.{fields_of}
 
 module _ {A : Type 0} where
-  fields_of-push : (xs : List (Vec Ty A)) (v : Vec Ty A) → fields_of (xs ++ v ∷ []) ≡ fields_of xs ++ tys_of v.items ∷ []
+  pub fields_of-push : (xs : List (Vec Ty A)) (v : Vec Ty A) → fields_of (xs ++ v ∷ []) ≡ fields_of xs ++ tys_of v.items ∷ []
   fields_of-push [] v = refl
   fields_of-push (x ∷ xs) v = ap (λ (ts : List Tys). tys_of x.items ∷ ts) (fields_of-push xs v)
 

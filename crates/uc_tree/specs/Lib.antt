@@ -5,7 +5,9 @@ pub mod PatternCodes
 pub mod PatternFalls
 pub mod PatternViews
 pub mod References
+pub mod Replacing
 pub mod Same
+pub mod Stops
 pub mod Patterns
 pub mod Targets
 pub mod TermCodes

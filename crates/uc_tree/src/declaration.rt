@@ -29,7 +29,7 @@ impl Model for Decl {
     ghost view = { λ d. record { tag = d.tag; params = d.params; ctors = fields_of d.ctors.items } };
 }
 
-fn copy_tag(alloc: Global, tag: &Option<Bytes>) -> Result<Option<Bytes>, AllocError>
+pub fn copy_tag(alloc: Global, tag: &Option<Bytes>) -> Result<Option<Bytes>, AllocError>
     ensures { IfOk result (λ t. t ≡ tag.now) }
 {
     match tag {
