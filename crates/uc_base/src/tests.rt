@@ -3,7 +3,8 @@ use crate::{Fault, Hash, Place, Ref, builtin_name_of, builtin_number_of, read_de
 use std::test::Fail;
 
 /// SHA-512 of `abc`, FIPS 180-4.
-const ABC: &str = "ddaf35a193617abacc417349ae20413112e6fa4e89a97ea20a9eeee64b55d39a2192992a274fc1a836ba3c23a3feebbd454d4423643ce80e2a9ac94fa54ca49f";
+const ABC: &str =
+    "ddaf35a193617abacc417349ae20413112e6fa4e89a97ea20a9eeee64b55d39a2192992a274fc1a836ba3c23a3feebbd454d4423643ce80e2a9ac94fa54ca49f";
 
 #[test]
 fn prints_references(rt: HostRuntime) -> Result<(), Fail> {
@@ -50,12 +51,25 @@ fn prints_faults(rt: HostRuntime) -> Result<(), Fail> {
 
 #[test]
 fn knows_builtins(rt: HostRuntime) {
-    for (name, number) in [("Nat", 0), ("List", 5), ("Nat.+", 16), ("Int.+", 30), ("List.empty", 56)] {
+    for (name, number) in [
+        ("Nat", 0),
+        ("List", 5),
+        ("Nat.+", 16),
+        ("Int.+", 30),
+        ("List.empty", 56),
+    ] {
         assert_eq!(rt; builtin_number_of(name.as_bytes()), Some(number), "{name}");
-        assert!(rt; builtin_name_of(number).is_some_and(|found| found == name), "{name}");
+        assert!(rt;
+            builtin_name_of(number).is_some_and(|found| found == name),
+            "{name}"
+        );
     }
     assert!(rt; builtin_number_of(b"Nat.foo").is_none() && builtin_number_of(b"").is_none());
-    assert!(rt; builtin_name_of(6).is_none() && builtin_name_of(15).is_none() && builtin_name_of(57).is_none());
+    assert!(rt;
+        builtin_name_of(6).is_none()
+            && builtin_name_of(15).is_none()
+            && builtin_name_of(57).is_none()
+    );
 }
 
 #[test]

@@ -6,7 +6,8 @@ use uc_base::{Bytes, Hash, Ref};
 use uc_tree::{Case, Decl, Definition, Literal, Pattern, Target, Term, TermNode, Ty};
 
 /// SHA-512 of `D1;s0;1;2;tb0;0;tb0;0;`, by coreutils.
-const POINT: &str = "d2c692eb9528f2d6e72bf6e44141694b616ce90cf4e9cba873dd51d640d002b639411de2d60b054a00d78d3c14ca3ce2ba67cacb2a3daae41c13374ef0f04ddd";
+const POINT: &str =
+    "d2c692eb9528f2d6e72bf6e44141694b616ce90cf4e9cba873dd51d640d002b639411de2d60b054a00d78d3c14ca3ce2ba67cacb2a3daae41c13374ef0f04ddd";
 
 fn builtin(number: u16) -> Target {
     Target::Stored(Ref::Builtin(number))
@@ -47,18 +48,42 @@ fn text_of(alloc: Global, members: Vec<Definition>) -> Result<Bytes, Fail> {
 fn writes_definitions(rt: HostRuntime) -> Result<(), Fail> {
     let alloc = rt.alloc();
     let signature = None;
-    let members = vec![in alloc; Definition { signature, body: nat(5) }]?;
+    let members = vec![in alloc;
+        Definition {
+            signature,
+            body: nat(5)
+        },
+    ]?;
     assert_eq!(rt; text_of(alloc, members)?.as_slice(), b"T1;-n5;".as_slice());
 
     let identity = Term::lambda(alloc, Term::variable(0))?;
     let signature = Some(Ty::forall(alloc, Ty::arrow(alloc, Ty::variable(0), Ty::variable(0))?)?);
-    let members = vec![in alloc; Definition { signature, body: identity }]?;
-    assert_eq!(rt; text_of(alloc, members)?.as_slice(), b"T1;:qav0;v0;lv0;".as_slice());
+    let members = vec![in alloc;
+        Definition {
+            signature,
+            body: identity
+        },
+    ]?;
+    assert_eq!(rt;
+        text_of(alloc, members)?.as_slice(),
+        b"T1;:qav0;v0;lv0;".as_slice()
+    );
 
-    let double = Term::lambda(alloc, infix(alloc, 16, Term::variable(0), Term::variable(0))?)?;
+    let double = Term::lambda(
+        alloc,
+        infix(alloc, 16, Term::variable(0), Term::variable(0))?,
+    )?;
     let signature = None;
-    let members = vec![in alloc; Definition { signature, body: double }]?;
-    assert_eq!(rt; text_of(alloc, members)?.as_slice(), b"T1;-laarb16;v0;v0;".as_slice());
+    let members = vec![in alloc;
+        Definition {
+            signature,
+            body: double
+        },
+    ]?;
+    assert_eq!(rt;
+        text_of(alloc, members)?.as_slice(),
+        b"T1;-laarb16;v0;v0;".as_slice()
+    );
     Ok(())
 }
 
@@ -67,7 +92,8 @@ fn writes_a_cycle(rt: HostRuntime) -> Result<(), Fail> {
     let alloc = rt.alloc();
     let members = vec![in alloc; parity(alloc, true, 1)?, parity(alloc, false, 0)?]?;
     let text = text_of(alloc, members)?;
-    let wanted = "T2;:atb0;0;tb2;0;lfaarb22;v0;n0;yam1;aarb20;v0;n1;:atb0;0;tb2;0;lfaarb22;v0;n0;zam0;aarb20;v0;n1;";
+    let wanted =
+        "T2;:atb0;0;tb2;0;lfaarb22;v0;n0;yam1;aarb20;v0;n1;:atb0;0;tb2;0;lfaarb22;v0;n0;zam0;aarb20;v0;n1;";
     assert_eq!(rt; text.as_slice(), wanted.as_bytes());
     Ok(())
 }
@@ -77,7 +103,13 @@ fn writes_a_declaration(rt: HostRuntime) -> Result<(), Fail> {
     let alloc = rt.alloc();
     let fields = vec![in alloc; named(alloc, 0)]?;
     let ctors = vec![in alloc; Vec::new(alloc), fields]?;
-    let members = vec![in alloc; Decl { tag: None, params: 0, ctors }]?;
+    let members = vec![in alloc;
+        Decl {
+            tag: None,
+            params: 0,
+            ctors
+        },
+    ]?;
     let text = write_component(alloc, &Component::Kinds(members))?;
     assert_eq!(rt; text.as_slice(), b"D1;s0;2;0;1;tb0;0;".as_slice());
     Ok(())
@@ -91,7 +123,13 @@ fn writes_a_match(rt: HostRuntime) -> Result<(), Fail> {
     let fields = vec![in alloc; Pattern::variable(), Pattern::any()]?;
     let pattern = Pattern::constructor(Target::Stored(Ref::Ctor(hash, 0, 0)), fields);
     let body = Term::variable(0);
-    let cases = vec![in alloc; Case { pattern, guard: None, body }]?;
+    let cases = vec![in alloc;
+        Case {
+            pattern,
+            guard: None,
+            body
+        },
+    ]?;
     let node = TermNode::Match(Box::new(alloc, Term::variable(0))?, cases);
     let signature = Some(Ty::arrow(alloc, point, named(alloc, 0))?);
     let body = Term::lambda(alloc, Term { node })?;

@@ -8,7 +8,8 @@ use uc_base::Bytes;
 use uc_outside::{MemDisk, MemSink, MemSource};
 
 /// What `x = 5` answers, with the reference by coreutils' sha512sum of `T1;-n5;`.
-const ADDED: &str = "added term x #b06d2efbc83b1b34427676e11c67699875e36a3bda3de47a996dcf1267ecf178b7bd8800fedd9429ef5a3df8e0222cf671ee1b57e671639d7cc40378081789db\n";
+const ADDED: &str =
+    "added term x #b06d2efbc83b1b34427676e11c67699875e36a3bda3de47a996dcf1267ecf178b7bd8800fedd9429ef5a3df8e0222cf671ee1b57e671639d7cc40378081789db\n";
 
 /// Runs on this text, given in pieces of that size, with these calls of input and output failing, and compares the
 /// status and the output.
@@ -31,7 +32,11 @@ fn check(
     let mut sink = MemSink::new(alloc, 1_024, writes.to_vec(alloc)?)?;
     let mut disk = MemDisk::new(alloc, Bytes::from_slice(alloc, b"")?, 0, 0, Vec::new(alloc))?;
     let answer = run(alloc, &owned, &mut source, &mut sink, &mut disk);
-    assert_eq!(rt; sink.bytes(), output.as_bytes(), "reads {reads:?} writes {writes:?}");
+    assert_eq!(rt;
+        sink.bytes(),
+        output.as_bytes(),
+        "reads {reads:?} writes {writes:?}"
+    );
     assert_eq!(rt; answer, status);
     Ok(())
 }
@@ -40,7 +45,14 @@ fn check(
 fn adds_one_number(rt: HostRuntime) -> Result<(), Fail> {
     let alloc = rt.alloc();
     check(&rt, alloc, &["add"], b"x = 5\n", (1, &[], &[]), (0, ADDED))?;
-    check(&rt, alloc, &["add"], b"x = 0005\n", (64, &[], &[]), (0, ADDED))
+    check(
+        &rt,
+        alloc,
+        &["add"],
+        b"x = 0005\n",
+        (64, &[], &[]),
+        (0, ADDED),
+    )
 }
 
 #[test]
@@ -67,7 +79,14 @@ fn refuses_other_words_and_texts(rt: HostRuntime) -> Result<(), Fail> {
         "a.if = 5\n",
         "+ = 5\n",
     ] {
-        check(&rt, alloc, &["add"], text.as_bytes(), (8, &[], &[]), not_built)?;
+        check(
+            &rt,
+            alloc,
+            &["add"],
+            text.as_bytes(),
+            (8, &[], &[]),
+            not_built,
+        )?;
     }
     Ok(())
 }
@@ -76,8 +95,22 @@ fn refuses_other_words_and_texts(rt: HostRuntime) -> Result<(), Fail> {
 fn limits_the_text(rt: HostRuntime) -> Result<(), Fail> {
     let alloc = rt.alloc();
     let text = vec![in alloc; b'a'; TEXT_LIMIT + 1]?;
-    check(&rt, alloc, &["add"], &text, (5_000, &[], &[]), (2, "refused 2 TextTooLong\n"))?;
-    check(&rt, alloc, &["add"], &text[1..], (5_000, &[], &[]), (2, "refused 4 NotBuilt\n"))
+    check(
+        &rt,
+        alloc,
+        &["add"],
+        &text,
+        (5_000, &[], &[]),
+        (2, "refused 2 TextTooLong\n"),
+    )?;
+    check(
+        &rt,
+        alloc,
+        &["add"],
+        &text[1..],
+        (5_000, &[], &[]),
+        (2, "refused 4 NotBuilt\n"),
+    )
 }
 
 #[test]
@@ -87,7 +120,14 @@ fn each_call_fails_once(rt: HostRuntime) -> Result<(), Fail> {
         let failed = (5, "refused 45 InputFault\n");
         check(&rt, alloc, &["add"], b"x = 5\n", (1, &[call], &[]), failed)?;
     }
-    check(&rt, alloc, &["add"], b"x = 5\n", (1, &[8], &[3]), (0, ADDED))?;
+    check(
+        &rt,
+        alloc,
+        &["add"],
+        b"x = 5\n",
+        (1, &[8], &[3]),
+        (0, ADDED),
+    )?;
     check(&rt, alloc, &["add"], b"x = 5\n", (1, &[], &[1]), (5, ""))?;
     check(&rt, alloc, &["add"], b"x = 5\n", (1, &[], &[2]), (5, ADDED))?;
     check(&rt, alloc, &["add"], b"x = 5\n", (1, &[3], &[1]), (5, ""))
@@ -96,6 +136,7 @@ fn each_call_fails_once(rt: HostRuntime) -> Result<(), Fail> {
 #[test]
 fn greatest_number(rt: HostRuntime) -> Result<(), Fail> {
     let text = b"most.of_all = 18446744073709551615\n";
-    let added = "added term most.of_all #d4d8a7c4d48260627d0fefe5282f56158686b70ed5b4d7cff639b23f8ee61dc222f44966e6601641e291964535384e676d9f933ccfb04570555f328b1604e506\n";
+    let added =
+        "added term most.of_all #d4d8a7c4d48260627d0fefe5282f56158686b70ed5b4d7cff639b23f8ee61dc222f44966e6601641e291964535384e676d9f933ccfb04570555f328b1604e506\n";
     check(&rt, rt.alloc(), &["add"], text, (64, &[], &[]), (0, added))
 }

@@ -10,13 +10,15 @@ same_types-returns-then-ts-us t c =
 pub same_types-loop-i-preserved : goal.same_types-loop-i-preserved
 same_types-loop-i-preserved t c =
     same_on c.args.ts.now c.args.us.now c.loop-i.i c.index-ts-i.result c.index-us-i.result c.loop-i-test.true (omega (arith, c.loop-i-test.true, c.if-ts-us.false)) c.index-ts-i.is c.index-us-i.is
-        (c.same_type.ensures.0 (search rules)) c.loop-i.invariant
+    (c.same_type.ensures.0 (search rules)) c.loop-i.invariant
 
 pub same_types-returns-then-not-same_type : goal.same_types-returns-then-not-same_type
-same_types-returns-then-not-same_type t c =
-    (λ h. search rules, λ e.
+same_types-returns-then-not-same_type t c = (
+  λ h. search rules,
+  λ e.
       let h = c.same_type.ensures.1 (same_at c.args.ts.now c.args.us.now c.loop-i.i c.index-ts-i.result c.index-us-i.result c.loop-i-test.true c.index-ts-i.is c.index-us-i.is (tys_of-injective c.args.ts.now c.args.us.now e)) in
-      search rules)
+      search rules,
+)
 
 pub same_types-returns : goal.same_types-returns
 same_types-returns t c =

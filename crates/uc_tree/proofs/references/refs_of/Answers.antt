@@ -15,8 +15,9 @@ returns c =
     let among = c.in_ok-refs.ensures ∙ ap stored_among (c.deref.ensures.value ∙ c.in_ok-targets.ensures.targets) in
     record {
       ascending = rw is (IsStrictlySortedBy-dedup ord.total-law ord.matches_eq-law _ c.sort_unstable.ensures.sorted);
-      refs = λ r.
-        (λ h. from_stored_among _ r (rw among at (Contains-permutation _ _ r (IsPermutation-sym _ _ moved) (Contains-from_dedup _ _ r (rw is at h)))),
-        λ h. rw is (Contains-dedup equal.laws-law same_refs _ r (Contains-permutation _ _ r moved (rw among (to_stored_among _ r h)))));
+      refs = λ r. (
+        λ h. from_stored_among _ r (rw among at (Contains-permutation _ _ r (IsPermutation-sym _ _ moved) (Contains-from_dedup _ _ r (rw is at h)))),
+        λ h. rw is (Contains-dedup equal.laws-law same_refs _ r (Contains-permutation _ _ r moved (rw among (to_stored_among _ r h)))),
+      );
       err = tt;
     }
