@@ -11,6 +11,8 @@ mod role;
 mod scan;
 mod stack;
 mod start;
+#[cfg(test)]
+mod tests;
 mod text;
 mod token;
 
