@@ -6,7 +6,7 @@ use crate::{Disk, Failed};
 /// A disk that borrows a disk, and does each call on it.
 #[derive(Drop)]
 pub struct Lent<'a, D: Disk> {
-    disk: &'a mut D,
+    pub disk: &'a mut D,
 }
 
 impl<'a, D: Disk> Lent<'a, D> {
