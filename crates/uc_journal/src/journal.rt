@@ -94,7 +94,10 @@ impl<D: Disk> Journal<D> {
 
     /// Gives the disk back, as the last call left it.
     pub fn into_disk(self) -> D
-        ensures { result ≡ disk_of self }
+        ensures same { result ≡ disk_of self }
+
+        // An opening of it reads back the payloads, and behind them at most the one whose fault isn't settled.
+        ensures reads_back { (payloads : List (List ℕ)) (unsettled : Option (List ℕ)) → Keeps self payloads unsettled → IsWithOrWithout payloads unsettled (D.view result).seen }
     {
         self.disk
     }
