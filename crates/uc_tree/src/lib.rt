@@ -1,12 +1,15 @@
 //! Types, patterns, terms, definitions and declarations as trees.
 #![tactic(auto)]
 
+mod constructors;
 mod copying;
 mod declaration;
 mod definition;
 mod equality;
+mod hints;
 mod item;
 mod literal;
+mod lookups;
 mod pattern;
 mod references;
 mod replacing;
@@ -15,11 +18,14 @@ mod targets;
 mod term;
 mod ty;
 
+pub use constructors::constructor_type;
 pub use copying::{copy_cases, copy_patterns, copy_signature, copy_terms, copy_types};
 pub use declaration::Decl;
 pub use definition::Definition;
+pub use hints::Hints;
 pub use item::Item;
 pub use literal::Literal;
+pub use lookups::{Arities, Env, Found, Known, Names};
 pub use pattern::{Pattern, PatternNode};
 pub use references::refs_of;
 pub use replacing::{rewrite, with_members};
