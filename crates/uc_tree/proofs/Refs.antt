@@ -2,12 +2,14 @@
 use Rattle.std.proofs.Common.{◌≡◌, ℕ, zero, suc, ◌+◌, ◌<◌, List, [], ◌∷◌, length, get_or, Bool, true, false, arith, rules, refl, sym, ap, ◌∙◌}
 use Rattle.std.proofs.lemmas.Bool.{eqb-true}
 use Rattle.std.specs.List.{Contains}
+use Rattle.std.specs.Ordering.{is_eq}
 use Rattle.uc_base.specs.declared.reference.Ref.{Ref}
 use Rattle.uc_base.specs.declared.reference.Ref.TheVariants.{Def, Ctor, Builtin}
 use Rattle.uc_base.specs.contracts.reference.RefPartialEq.TheImpl as eq
+use Rattle.uc_base.specs.contracts.reference.RefOrd.TheImpl.Laws as ord
 use Rattle.uc_tree.specs.declared.target.Target.{Target}
 use Rattle.uc_tree.specs.declared.target.Target.TheVariants.{Stored, Own, OwnCtor}
-use Rattle.uc_tree.specs.References.{stored_among}
+use Rattle.uc_tree.specs.References.{ref_order, stored_among}
 
 pub same_refs : (x y : Ref) → (eq.ghosts).eq x y ≡ true → x ≡ y
 same_refs (Def h m) (Def k n) e = search rules
@@ -38,3 +40,10 @@ stored_to (OwnCtor n m) r xs (suc k) h e rest = rest (k, omega arith, e)
 pub to_stored_among : (xs : List Target) (r : Ref) → Contains xs (Stored r) → Contains (stored_among xs) r
 to_stored_among [] r c = absurd (omega (arith, c.1))
 to_stored_among (x ∷ xs) r c = stored_to x r xs c.0 c.1 c.2 (to_stored_among xs r)
+
+pub apart_refs : (x y : Ref) → (y ≡ x → ⊥) → is_eq (ref_order x y) ≡ false
+apart_refs x y h = go (is_eq (ref_order x y)) refl
+  where
+    go : (b : Bool) → is_eq (ref_order x y) ≡ b → is_eq (ref_order x y) ≡ false
+    go false is = is
+    go true is = absurd (h (sym (same_refs x y (ord.matches_eq-law x y ∙ is))))

@@ -3,6 +3,7 @@
 
 mod constructors;
 mod copying;
+mod counting;
 mod declaration;
 mod definition;
 mod equality;
@@ -11,6 +12,7 @@ mod item;
 mod literal;
 mod lookups;
 mod pattern;
+mod ref_map;
 mod references;
 mod replacing;
 mod target;
@@ -20,6 +22,7 @@ mod ty;
 
 pub use constructors::constructor_type;
 pub use copying::{copy_cases, copy_patterns, copy_signature, copy_terms, copy_types};
+pub use counting::{depth, type_nodes};
 pub use declaration::Decl;
 pub use definition::Definition;
 pub use hints::Hints;
@@ -27,6 +30,7 @@ pub use item::Item;
 pub use literal::Literal;
 pub use lookups::{Arities, Env, Found, Known, Names};
 pub use pattern::{Pattern, PatternNode};
+pub use ref_map::{Image, RefMap};
 pub use references::refs_of;
 pub use replacing::{rewrite, with_members};
 pub use target::Target;
