@@ -12,7 +12,7 @@ use Rattle.uc_layout.specs.Start.{start_at}
 use Rattle.uc_layout.specs.Judgement.{judged}
 use Rattle.uc_layout.specs.Tokens.{Seen, Ending, failed, moved, last_byte, Scans, at_text_end, at_fold, at_wrong, at_line_feed, at_white, at_comment, at_token, at_no_token, TokensAreUnique}
 
-take_drop : (n : ℕ) (text : List ℕ) → text ≡ take n text ++ drop n text
+pub take_drop : (n : ℕ) (text : List ℕ) → text ≡ take n text ++ drop n text
 take_drop zero text = refl
 take_drop (suc n) [] = refl
 take_drop (suc n) (c ∷ cs) = ap (λ x. c ∷ x) (take_drop n cs)

@@ -4,5 +4,6 @@ pub mod Longest
 pub mod Marked
 pub mod Rests
 pub mod Scanning
+pub mod Slices
 pub mod Steps
 pub mod Whole

@@ -1,5 +1,5 @@
 -- The layout of a whole text, and the first fault of a text that has none.
-use Rattle.std.specs.Prelude.{◌≡◌, ℕ, ◌<◌, ◌≤◌, ◌==◌, ◌||◌, not, List, [], ◌∷◌, length, bytes_eq, codes, IsUtf8, if◌then◌else◌}
+use Rattle.std.specs.Prelude.{◌≡◌, ℕ, ◌<◌, ◌≤◌, ◌==◌, ◌||◌, not, List, [], ◌∷◌, ◌++◌, length, bytes_eq, codes, IsUtf8, if◌then◌else◌}
 use Rattle.uc_base.specs.declared.place.Place.{Place}
 use Rattle.uc_base.specs.declared.fault.Fault.{Fault}
 use Rattle.uc_base.specs.declared.fault.Fault.TheVariants.{TextTooLong, NotUtf8, BadToken, LeftOut}
@@ -98,3 +98,13 @@ FaultIsUnique = (text : List ℕ) (a b : Fault) → IsFirstFault text a → IsFi
 -- A text with a layout has no fault.
 abbrev pub LayoutHasNoFault : Type 0
 LayoutHasNoFault = (text : List ℕ) (blocks : List Seen) (fault : Fault) → Lays text blocks → IsFirstFault text fault → ⊥
+
+-- The texts of these tokens stand in a text, one behind the other. A mark's text is empty.
+pub data AreSlices : List ℕ → List Seen → Type 0 where
+  no_slice : {text : List ℕ} → AreSlices text []
+  behind_byte : {c : ℕ} {text : List ℕ} {ts : List Seen} → AreSlices text ts → AreSlices (c ∷ text) ts
+  next_slice : {t : Seen} {text rest : List ℕ} {ts : List Seen} → text ≡ t.text ++ rest → AreSlices rest ts → AreSlices text (t ∷ ts)
+
+-- Each token's text is a slice of the source, in order.
+abbrev pub TokensAreSlices : Type 0
+TokensAreSlices = (text : List ℕ) (blocks : List Seen) → Lays text blocks → AreSlices text blocks

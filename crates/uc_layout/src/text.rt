@@ -1,7 +1,7 @@
 //! From the bytes of a text to its tokens, blocks and items.
 ghost use Rattle.std.specs.Prelude.{◌≡◌, ◌<◌, ◌≤◌, ◌↔◌, ◌⊎◌, length, IsUtf8, IfOk, IfErr, IsErrOf, IsTrue};
 ghost use Rattle.uc_base.specs.declared.fault.Fault.TheVariants.{Memory, TextTooLong, NotUtf8};
-ghost use Rattle.uc_layout.specs.Text.{Lays, IsMarked, IsFirstFault, LayoutIsUnique, FaultIsUnique, LayoutHasNoFault};
+ghost use Rattle.uc_layout.specs.Text.{Lays, IsMarked, IsFirstFault, LayoutIsUnique, FaultIsUnique, LayoutHasNoFault, TokensAreSlices};
 
 use crate::blocks::Blocks;
 use crate::lay::lay;
@@ -47,9 +47,11 @@ pub fn lex(alloc: Global, text: &[u8]) -> Result<Blocks<'_>, Fault>
     Ok(blocks)
 }
 
-/// A text has at most one layout, at most one first fault, and not both.
+/// A text has at most one layout, at most one first fault, and not both. The tokens of a layout are slices of the text,
+/// in order.
 pub fn layout_law()
     ensures layout { LayoutIsUnique }
     ensures fault { FaultIsUnique }
     ensures either { LayoutHasNoFault }
+    ensures slices { TokensAreSlices }
 {}
