@@ -135,6 +135,10 @@ abbrev mutual
   replaced_cases m (terms.guarded p g b cs) =
       replaced_pattern m p >>= λ q. replaced_term m g >>= λ h. replaced_term m b >>= λ d. replaced_cases m cs >>= λ ds. Some (terms.guarded q h d ds)
 
+-- two terms with their targets replaced
+abbrev pub replaced_two : Replacement → Term → Term → Option (Term × Term)
+replaced_two m t u = replaced_term m t >>= λ v. replaced_term m u >>= λ w. Some (v, w)
+
 -- a guard with its targets replaced
 abbrev pub replaced_guard : Replacement → Option Term → Option (Option Term)
 replaced_guard m None = Some None

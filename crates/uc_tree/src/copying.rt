@@ -88,23 +88,92 @@ impl Term {
             TermNode::Literal(l) => Ok(Term::literal(l.copy(alloc)?)),
             TermNode::Unit => Ok(Term::unit()),
             TermNode::Link(x) => Ok(Term::link(*x)),
-            TermNode::Lambda(a) => Term::lambda(alloc, a.copy(alloc)?),
-            TermNode::Apply(a, b) => Term::apply(alloc, a.copy(alloc)?, b.copy(alloc)?),
-            TermNode::Annotated(a, t) => Term::annotated(alloc, a.copy(alloc)?, t.copy(alloc)?),
-            TermNode::Tuple(ts) => Ok(Term::tuple(copy_terms(alloc, ts)?)),
-            TermNode::List(ts) => Ok(Term::list(copy_terms(alloc, ts)?)),
-            TermNode::If(a, b, c) => {
-                Term::conditional(alloc, a.copy(alloc)?, b.copy(alloc)?, c.copy(alloc)?)
+            TermNode::Lambda(a) => {
+                let a = copy_box(alloc, a)?;
+                Ok(Term {
+                    node: TermNode::Lambda(a),
+                })
             }
-            TermNode::And(a, b) => Term::and(alloc, a.copy(alloc)?, b.copy(alloc)?),
-            TermNode::Or(a, b) => Term::or(alloc, a.copy(alloc)?, b.copy(alloc)?),
+            TermNode::Apply(a, b) => {
+                let (a, b) = copy_two(alloc, a, b)?;
+                Ok(Term {
+                    node: TermNode::Apply(a, b),
+                })
+            }
+            TermNode::Annotated(a, t) => {
+                let a = copy_box(alloc, a)?;
+                let t = t.copy(alloc)?;
+                Ok(Term {
+                    node: TermNode::Annotated(a, t),
+                })
+            }
+            TermNode::Tuple(ts) => {
+                let ts = copy_terms(alloc, ts)?;
+                Ok(Term {
+                    node: TermNode::Tuple(ts),
+                })
+            }
+            TermNode::List(ts) => {
+                let ts = copy_terms(alloc, ts)?;
+                Ok(Term {
+                    node: TermNode::List(ts),
+                })
+            }
+            TermNode::If(a, b, c) => {
+                let (a, b) = copy_two(alloc, a, b)?;
+                let c = copy_box(alloc, c)?;
+                Ok(Term {
+                    node: TermNode::If(a, b, c),
+                })
+            }
+            TermNode::And(a, b) => {
+                let (a, b) = copy_two(alloc, a, b)?;
+                Ok(Term {
+                    node: TermNode::And(a, b),
+                })
+            }
+            TermNode::Or(a, b) => {
+                let (a, b) = copy_two(alloc, a, b)?;
+                Ok(Term {
+                    node: TermNode::Or(a, b),
+                })
+            }
             TermNode::Let(s, a, b) => {
                 let s = copy_signature(alloc, s)?;
-                Term::binding(alloc, s, a.copy(alloc)?, b.copy(alloc)?)
+                let (a, b) = copy_two(alloc, a, b)?;
+                Ok(Term {
+                    node: TermNode::Let(s, a, b),
+                })
             }
-            TermNode::Match(a, cs) => Term::matching(alloc, a.copy(alloc)?, copy_cases(alloc, cs)?),
+            TermNode::Match(a, cs) => {
+                let a = copy_box(alloc, a)?;
+                let cs = copy_cases(alloc, cs)?;
+                Ok(Term {
+                    node: TermNode::Match(a, cs),
+                })
+            }
         }
     }
+}
+
+/// Recursion goes through boxes, which keeps the frame of `Term::copy` small.
+#[cycle(copy_term)]
+#[tactic(auto, using(crate::proofs::Sizes::parts))]
+fn copy_box(alloc: Global, t: &Term) -> Result<Box<Term>, AllocError>
+    ensures { IfOk result (λ b. b.value ≡ t.now) }
+{
+    let t = t.copy(alloc)?;
+    Ok(Box::new(alloc, t)?)
+}
+
+#[cycle(copy_term)]
+#[tactic(auto, using(crate::proofs::Sizes::parts))]
+fn copy_two(alloc: Global, t: &Term, u: &Term) -> Result<(Box<Term>, Box<Term>), AllocError>
+    ensures { IfOk result (λ p. (p.0.value ≡ t.now) × (p.1.value ≡ u.now)) }
+{
+    let t = copy_box(alloc, t)?;
+    let u = copy_box(alloc, u)?;
+    Ok((t, u))
 }
 
 #[cycle(copy_term)]

@@ -262,18 +262,23 @@ fn replace_term(alloc: Global, standing: &Standing, t: &Term) -> Result<Term, St
             Ok(Term::link(x))
         }
         TermNode::Lambda(a) => {
-            let a = replace_term(alloc, standing, a)?;
-            Ok(Term::lambda(alloc, a)?)
+            let a = replace_box(alloc, standing, a)?;
+            Ok(Term {
+                node: TermNode::Lambda(a),
+            })
         }
         TermNode::Apply(a, b) => {
-            let a = replace_term(alloc, standing, a)?;
-            let b = replace_term(alloc, standing, b)?;
-            Ok(Term::apply(alloc, a, b)?)
+            let (a, b) = replace_two(alloc, standing, a, b)?;
+            Ok(Term {
+                node: TermNode::Apply(a, b),
+            })
         }
         TermNode::Annotated(a, ty) => {
-            let a = replace_term(alloc, standing, a)?;
+            let a = replace_box(alloc, standing, a)?;
             let ty = replace_type(alloc, standing, ty)?;
-            Ok(Term::annotated(alloc, a, ty)?)
+            Ok(Term {
+                node: TermNode::Annotated(a, ty),
+            })
         }
         TermNode::Tuple(ts) => {
             let ts = replace_terms(alloc, standing, ts)?;
@@ -284,33 +289,64 @@ fn replace_term(alloc: Global, standing: &Standing, t: &Term) -> Result<Term, St
             Ok(Term::list(ts))
         }
         TermNode::If(a, b, c) => {
-            let a = replace_term(alloc, standing, a)?;
-            let b = replace_term(alloc, standing, b)?;
-            let c = replace_term(alloc, standing, c)?;
-            Ok(Term::conditional(alloc, a, b, c)?)
+            let (a, b) = replace_two(alloc, standing, a, b)?;
+            let c = replace_box(alloc, standing, c)?;
+            Ok(Term {
+                node: TermNode::If(a, b, c),
+            })
         }
         TermNode::And(a, b) => {
-            let a = replace_term(alloc, standing, a)?;
-            let b = replace_term(alloc, standing, b)?;
-            Ok(Term::and(alloc, a, b)?)
+            let (a, b) = replace_two(alloc, standing, a, b)?;
+            Ok(Term {
+                node: TermNode::And(a, b),
+            })
         }
         TermNode::Or(a, b) => {
-            let a = replace_term(alloc, standing, a)?;
-            let b = replace_term(alloc, standing, b)?;
-            Ok(Term::or(alloc, a, b)?)
+            let (a, b) = replace_two(alloc, standing, a, b)?;
+            Ok(Term {
+                node: TermNode::Or(a, b),
+            })
         }
         TermNode::Let(signature, a, b) => {
             let signature = replace_signature(alloc, standing, signature)?;
-            let a = replace_term(alloc, standing, a)?;
-            let b = replace_term(alloc, standing, b)?;
-            Ok(Term::binding(alloc, signature, a, b)?)
+            let (a, b) = replace_two(alloc, standing, a, b)?;
+            Ok(Term {
+                node: TermNode::Let(signature, a, b),
+            })
         }
         TermNode::Match(a, cs) => {
-            let a = replace_term(alloc, standing, a)?;
+            let a = replace_box(alloc, standing, a)?;
             let cs = replace_cases(alloc, standing, cs)?;
-            Ok(Term::matching(alloc, a, cs)?)
+            Ok(Term {
+                node: TermNode::Match(a, cs),
+            })
         }
     }
+}
+
+/// Recursion goes through boxes, which keeps the frame of `replace_term` small.
+#[cycle(replace_term)]
+#[tactic(auto, using(crate::proofs::Sizes::parts))]
+fn replace_box(alloc: Global, standing: &Standing, t: &Term) -> Result<Box<Term>, Stop>
+    ensures { Gives (λ b. b.value) result (replaced_term (replacement_of standing.now) t.now) }
+{
+    let t = replace_term(alloc, standing, t)?;
+    Ok(Box::new(alloc, t)?)
+}
+
+#[cycle(replace_term)]
+#[tactic(auto, using(crate::proofs::Sizes::parts))]
+fn replace_two(
+    alloc: Global,
+    standing: &Standing,
+    t: &Term,
+    u: &Term,
+) -> Result<(Box<Term>, Box<Term>), Stop>
+    ensures { Gives (λ p. (p.0.value, p.1.value)) result (spec.replaced_two (replacement_of standing.now) t.now u.now) }
+{
+    let t = replace_box(alloc, standing, t)?;
+    let u = replace_box(alloc, standing, u)?;
+    Ok((t, u))
 }
 
 #[cycle(replace_term)]

@@ -5,19 +5,25 @@ use Rattle.uc_tree.proofs.Sizes.{guard_size, case_size}
 use Rattle.uc_tree.proofs.+copy_term.Given as goal
 
 abbrev pub decreases-term::Term::copy : goal.decreases-term::Term::copy
-decreases-term::Term::copy l = 2 * term_size l.self.now
+decreases-term::Term::copy l = 3 * term_size l.self.now
+
+abbrev pub decreases-copying::copy_box : goal.decreases-copying::copy_box
+decreases-copying::copy_box l = 3 * term_size l.t.now + 1
+
+abbrev pub decreases-copying::copy_two : goal.decreases-copying::copy_two
+decreases-copying::copy_two l = 3 * (term_size l.t.now + term_size l.u.now) + 2
 
 abbrev pub decreases-copying::copy_terms : goal.decreases-copying::copy_terms
-decreases-copying::copy_terms l = 2 * terms_size (terms_of l.terms.now)
+decreases-copying::copy_terms l = 3 * terms_size (terms_of l.terms.now)
 
 abbrev pub decreases-copying::copy_guard : goal.decreases-copying::copy_guard
-decreases-copying::copy_guard l = 2 * guard_size l.guard.now
+decreases-copying::copy_guard l = 3 * guard_size l.guard.now
 
 abbrev pub decreases-term::Case::copy : goal.decreases-term::Case::copy
-decreases-term::Case::copy l = 2 * case_size l.self.now
+decreases-term::Case::copy l = 3 * case_size l.self.now
 
 abbrev pub decreases-copying::copy_cases : goal.decreases-copying::copy_cases
-decreases-copying::copy_cases l = 2 * cases_size (cases_of l.cases.now) + 1
+decreases-copying::copy_cases l = 3 * cases_size (cases_of l.cases.now) + 1
 
 abbrev pub invariant-copying::copy_terms-loop-t : goal.invariant-copying::copy_terms-loop-t
 invariant-copying::copy_terms-loop-t l = l.copied.items ≡ take l.t-index l.terms

@@ -9,19 +9,25 @@ use Rattle.uc_tree.proofs.Sizes.{guard_size, case_size}
 use Rattle.uc_tree.proofs.replacing.+replace_term.Given as goal
 
 abbrev pub decreases-replace_term : goal.decreases-replace_term
-decreases-replace_term l = 2 * term_size l.t.now
+decreases-replace_term l = 3 * term_size l.t.now
+
+abbrev pub decreases-replace_box : goal.decreases-replace_box
+decreases-replace_box l = 3 * term_size l.t.now + 1
+
+abbrev pub decreases-replace_two : goal.decreases-replace_two
+decreases-replace_two l = 3 * (term_size l.t.now + term_size l.u.now) + 2
 
 abbrev pub decreases-replace_terms : goal.decreases-replace_terms
-decreases-replace_terms l = 2 * terms_size (terms_of l.ts.now)
+decreases-replace_terms l = 3 * terms_size (terms_of l.ts.now)
 
 abbrev pub decreases-replace_guard : goal.decreases-replace_guard
-decreases-replace_guard l = 2 * guard_size l.guard.now
+decreases-replace_guard l = 3 * guard_size l.guard.now
 
 abbrev pub decreases-replace_case : goal.decreases-replace_case
-decreases-replace_case l = 2 * case_size l.c.now
+decreases-replace_case l = 3 * case_size l.c.now
 
 abbrev pub decreases-replace_cases : goal.decreases-replace_cases
-decreases-replace_cases l = 2 * cases_size (cases_of l.cs.now) + 1
+decreases-replace_cases l = 3 * cases_size (cases_of l.cs.now) + 1
 
 abbrev pub invariant-replace_terms-loop-t : goal.invariant-replace_terms-loop-t
 invariant-replace_terms-loop-t l =
