@@ -5,4 +5,5 @@ pub mod Joins
 pub mod Lists
 pub mod Refs
 pub mod Replaced
+pub mod ReplacingLaws
 pub mod Sizes

@@ -13,10 +13,10 @@ use Rattle.uc_tree.specs.Terms as terms
 use Rattle.uc_tree.specs.Replacing.{◌>>=◌, Replacement, target_under, constructor_under, replaced_ty, replaced_tys, replaced_signature, replaced_pattern, replaced_patterns, replaced_term, replaced_terms, replaced_cases}
 use Rattle.uc_tree.specs.Counts.{node_count, tys_node_count, ty_levels, tys_levels, signature_levels, pattern_levels, patterns_levels, term_levels, terms_levels, cases_levels}
 
-some_is : {A : Type 0} (x y : A) → ◌≡◌ {A = Option A} (Some x) (Some y) → x ≡ y
+pub some_is : {A : Type 0} (x y : A) → ◌≡◌ {A = Option A} (Some x) (Some y) → x ≡ y
 some_is x y e = cc
 
-bound : {A B : Type 0} (o : Option A) (f : A → Option B) (y : B) → (o >>= f) ≡ Some y → (x : A) × (o ≡ Some x) × (f x ≡ Some y)
+pub bound : {A B : Type 0} (o : Option A) (f : A → Option B) (y : B) → (o >>= f) ≡ Some y → (x : A) × (o ≡ Some x) × (f x ≡ Some y)
 bound None f y e = absurd cc
 bound (Some x) f y e = (x, refl, e)
 
@@ -251,7 +251,7 @@ mutual
   patterns-levels patterns_none = refl
   patterns-levels (patterns_more p0 p1) = rw (pattern-levels p0, patterns-levels p1) refl
 
-signature-levels : {m : Replacement} {s r : Option Ty} → ReplacedSignature m s r → signature_levels r ≡ signature_levels s
+pub signature-levels : {m : Replacement} {s r : Option Ty} → ReplacedSignature m s r → signature_levels r ≡ signature_levels s
 signature-levels no_signature = refl
 signature-levels (some_signature p) = ty-levels p
 
