@@ -46,6 +46,7 @@ judged_word text =
 abbrev pub judged_builtin : List ℕ → Judgement
 judged_builtin text = token_if (is_some (builtin_number (drop 2 text))) kind.Builtin
 
+-- what a lexeme of a form is
 abbrev pub judged_some : Form → List ℕ → Judgement
 judged_some form.Dotted text = judged_word text
 judged_some form.Number text = judged_number text

@@ -11,6 +11,7 @@ use Rattle.uc_layout.specs.declared.piece.Region.{Region}
 use Rattle.uc_layout.specs.declared.piece.Waiting.{Waiting}
 use Rattle.uc_layout.specs.declared.piece.Outside.{Outside}
 
+-- a closing bracket
 abbrev pub is_right : Role → Bool
 is_right Right = true
 is_right _ = false
@@ -35,13 +36,16 @@ abbrev pub goes_on : Role → Bool
 goes_on Bar = true
 goes_on k = is_closing k
 
+-- `type`, `structural` or `unique`, which make a file item type text
 abbrev pub declares : Role → Bool
 declares Declares = true
 declares _ = false
 
+-- no word waits
 abbrev pub nothing : Waiting
 nothing = record { thens = 0; elses = 0; withs = 0 }
 
+-- no word waits outside a block
 abbrev pub nothing_outside : Outside
 nothing_outside = record { thens = false; elses = false; withs = false }
 
@@ -56,6 +60,7 @@ ends_word out w Else = w.elses == 0 && out.elses
 ends_word out w With = w.withs == 0 && out.withs
 ends_word out w _ = false
 
+-- whether a token ends a block: by its bracket, by a word outside, or by a line left of the block's column
 abbrev pub ends_block : Region → Piece → Bool
 ends_block r t = (r.bracketed && is_punctuation t.role) || (ends_word r.outside r.waiting t.role || (t.first && nat_lt t.column r.column))
 
@@ -77,6 +82,7 @@ begins_at Bracket r t = false
 begins_at Block r t = in_column r t
 begins_at Inline r t = false
 
+-- the file itself
 abbrev pub is_file : Container → Bool
 is_file File = true
 is_file _ = false
@@ -94,6 +100,7 @@ waits w Match = record w { withs = w.withs + 1 }
 waits w With = record w { withs = w.withs - 1 }
 waits w _ = w
 
+-- `:`, behind which type text begins
 abbrev pub is_colon : Role → Bool
 is_colon Colon = true
 is_colon _ = false
@@ -102,12 +109,15 @@ is_colon _ = false
 abbrev pub behind : Region → Role → Region
 behind r k = record r { waiting = waits r.waiting k; types = r.types || is_colon k }
 
+-- the bracket that is opened in a region: blocks outside it have no column in it
 abbrev pub inside_bracket : Region → Region
 inside_bracket r = record { container = Bracket; column = 0; bracketed = true; outside = nothing_outside; waiting = nothing; types = r.types }
 
+-- the block that is opened in a region
 abbrev pub inside_block : Container → ℕ → Region → Region
 inside_block p c r = record { container = p; column = c; bracketed = r.bracketed; outside = more r.outside r.waiting; waiting = nothing; types = false }
 
+-- the file before its first token: a block of column 1
 abbrev pub the_file : Region
 the_file = record { container = File; column = 1; bracketed = false; outside = nothing_outside; waiting = nothing; types = false }
 
@@ -125,6 +135,7 @@ block_before r (t ∷ ts) =
     if is_closing t.role || (t.first && nat_le t.column r.column) then hollow
     else (if t.first then block (inside_block Block t.column r) else block (inside_block Inline r.column r))
 
+-- behind which a block stands
 abbrev pub opens : Role → Bool
 opens Opener = true
 opens Then = true
@@ -132,6 +143,7 @@ opens Else = true
 opens With = true
 opens _ = false
 
+-- what a token does, where this is the region behind it: in type text it opens no block
 abbrev pub act_of : Region → List Piece → Role → Act
 act_of r after Left = bracket
 act_of r after k = if opens k && not r.types then block_before r after else word
@@ -142,9 +154,11 @@ pub data Move : Type 0 where
   item : Act → Move
   take : Act → Move
 
+-- what a token does in a region
 abbrev pub taken : Region → List Piece → Role → Act
 taken r after k = act_of (behind r k) after k
 
+-- a token of a region ends it, begins an item of it, or is taken in it
 abbrev pub move : Region → List Piece → Move
 move r [] = stop
 move r (t ∷ ts) = if ends_at r.container r t then stop else (if begins_at r.container r t then item (taken (at_start r t.role) ts t.role) else take (taken r ts t.role))
@@ -182,6 +196,7 @@ pub data Runs : Move → Region → List Piece → List Mark → List Piece → 
 abbrev pub LaysPieces : List Piece → List Mark → Type 0
 LaysPieces ts ms = Runs (first_move the_file ts) the_file ts ms [] []
 
+-- Pieces are marked in one way.
 abbrev pub PiecesAreUnique : Type 0
 PiecesAreUnique = (ts : List Piece) (ms ns : List Mark) → LaysPieces ts ms → LaysPieces ts ns → ms ≡ ns
 
@@ -193,5 +208,6 @@ tokens_of (Closes ∷ ms) = tokens_of ms
 tokens_of (Item ∷ ms) = tokens_of ms
 tokens_of (Token t ∷ ms) = t ∷ tokens_of ms
 
+-- The marks stand among the pieces, in their order.
 abbrev pub PiecesAreKept : Type 0
 PiecesAreKept = (ts : List Piece) (ms : List Mark) → LaysPieces ts ms → tokens_of ms ≡ ts

@@ -22,6 +22,7 @@ is_continuation c = nat_le 128 c && nat_lt c 192
 abbrev pub is_single : ℕ → Bool
 is_single c = c == 40 || (c == 41 || (c == 91 || (c == 93 || (c == 44 || (c == 46 || c == 64)))))
 
+-- a state under a condition
 abbrev pub only : Bool → State → Option State
 only test state = if test then Some state else None
 
@@ -55,9 +56,11 @@ member_step c = if c == 48 then Some MemberZero else only (is_digit c) (MemberDi
 abbrev pub member_digits_step : ℕ → ℕ → Option State
 member_digits_step count c = if nat_lt count 9 && is_digit c then Some (MemberDigits (count + 1)) else only (c == 35) CtorStart
 
+-- the number of a constructor, likewise without a leading zero
 abbrev pub ctor_step : ℕ → Option State
 ctor_step c = if c == 48 then Some CtorZero else only (is_digit c) (CtorDigits 1)
 
+-- and with at most nine digits
 abbrev pub ctor_digits_step : ℕ → ℕ → Option State
 ctor_digits_step count c = if nat_lt count 9 && is_digit c then Some (CtorDigits (count + 1)) else None
 

@@ -15,15 +15,18 @@ abbrev pub innermost : List Region → Region
 innermost [] = the_file
 innermost (r ∷ rs) = r
 
+-- the regions around the innermost one
 abbrev pub outer : List Region → List Region
 outer [] = []
 outer (r ∷ rs) = rs
 
+-- a block, with or without a column
 abbrev pub is_block : Container → Bool
 is_block Block = true
 is_block Inline = true
 is_block _ = false
 
+-- an opening bracket
 abbrev pub is_left : Role → Bool
 is_left Left = true
 is_left _ = false

@@ -12,6 +12,7 @@ use Rattle.uc_layout.specs.Lexeme.{is_continuation, is_single}
 abbrev pub is_white : ℕ → Bool
 is_white c = c == 32 || (c == 9 || c == 13)
 
+-- white characters alone
 abbrev pub are_white : List ℕ → Bool
 are_white text = list_all is_white text
 
@@ -19,6 +20,7 @@ are_white text = list_all is_white text
 abbrev pub line_of : List ℕ → List ℕ
 line_of text = take_while (λ c. not (c == 10)) text
 
+-- how many bytes there are before the first line feed
 abbrev pub line_len : List ℕ → ℕ
 line_len text = length (line_of text)
 
@@ -30,10 +32,12 @@ characters text = count_by (λ c. not (is_continuation c)) text
 abbrev pub is_fold : List ℕ → Bool
 is_fold text = starts_with nat_eq (line_of text) (codes "---") && are_white (drop 3 (line_of text))
 
+-- whether a text begins with a digit
 abbrev pub begins_digit : List ℕ → Bool
 begins_digit [] = false
 begins_digit (c ∷ cs) = is_digit c
 
+-- `+` and `-`
 abbrev pub is_sign : ℕ → Bool
 is_sign c = c == 43 || c == 45
 
@@ -72,6 +76,7 @@ first_start text =
     if is_fold text then Some start.Fold
     else (if starts_with nat_eq text (codes "test>") then Some (start.Wrong LeftOut) else None)
 
+-- what any column may begin
 abbrev pub plain_start : ℕ → ℕ → List ℕ → Start
 plain_start before c cs =
     if is_white c then start.White

@@ -37,6 +37,7 @@ symbol_role text =
     else (if bytes_eq text (codes ",") then role.Comma
     else role.Plain)))))
 
+-- what layout sees of a token: only keywords and symbols have a role
 abbrev pub role_of : Kind → List ℕ → Role
 role_of kind.Keyword text = keyword_role text
 role_of kind.Symbol text = symbol_role text
@@ -53,6 +54,7 @@ abbrev pub next_place : List Seen → Place → Place
 next_place [] end = end
 next_place (t ∷ ts) end = t.place
 
+-- a mark at a place
 abbrev pub mark_at : Kind → Place → Seen
 mark_at k p = record { kind = k; text = []; place = p }
 

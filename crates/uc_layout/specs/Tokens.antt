@@ -18,9 +18,11 @@ pub record Seen : Type 0 where
   pub text : List ℕ
   pub place : Place
 
+-- a token by its text
 abbrev pub seen_one : Token → Seen
 seen_one t = record { kind = t.kind; text = t.text.now; place = t.place }
 
+-- tokens by their texts
 abbrev pub seen : List Token → List Seen
 seen tokens = map seen_one tokens
 
@@ -29,9 +31,11 @@ pub data Ending : Type 0 where
   ended : Place → Ending
   failed : Wrong → Place → Ending
 
+-- where a text begins
 abbrev pub first_place : Place
 first_place = record { line = 1; column = 1 }
 
+-- where the next line begins
 abbrev pub next_line : Place → Place
 next_line p = record { line = p.line + 1; column = 1 }
 
