@@ -1,0 +1,16 @@
+pub mod Paths
+pub mod Places
+pub mod Counting
+pub mod Entering
+pub mod Merging
+pub mod Leaving
+pub mod Closing
+pub mod Looks
+pub mod Finished
+pub mod Pushed
+pub mod Linking
+pub mod Members
+pub mod Sets
+pub mod Stages
+pub mod Taking
+pub mod Placed
