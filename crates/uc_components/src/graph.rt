@@ -1,6 +1,6 @@
 //! A graph of numbers.
-ghost use Rattle.std.specs.Prelude.{◌≡◌, ◌<◌, length, slice_index};
-ghost use Rattle.uc_base.specs.Graph.{row};
+ghost use Rattle.std.specs.Prelude.{◌≡◌, ◌<◌, ℕ, true, false, length, slice_index};
+ghost use Rattle.uc_base.specs.Graph.{row, Edge, InRange};
 
 use std::marker::Model;
 
@@ -41,5 +41,31 @@ impl Graph {
         ensures { result ≡ slice_index (row self.now vertex) at }
     {
         self.edges[vertex][at] as usize
+    }
+
+    fn is_row_in_range(&self, vertex: usize) -> bool
+        requires { vertex < length self.now }
+        ensures yes { result ≡ true → (v : ℕ) → Edge self.now vertex v → v < length self.now }
+        ensures no { result ≡ false → InRange self.now → ⊥ }
+    {
+        for at in 0..self.degree(vertex) {
+            if self.reference(vertex, at) >= self.len() {
+                return false;
+            }
+        }
+        true
+    }
+
+    /// Whether each reference is to a vertex.
+    pub fn is_in_range(&self) -> bool
+        ensures yes { result ≡ true → InRange self.now }
+        ensures no { result ≡ false → InRange self.now → ⊥ }
+    {
+        for vertex in 0..self.len() {
+            if !self.is_row_in_range(vertex) {
+                return false;
+            }
+        }
+        true
     }
 }
