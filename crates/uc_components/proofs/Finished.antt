@@ -16,13 +16,13 @@ searched_all g s n i h pe seen le ne = record {
 module _ (g : List (List ℕ)) (s : State) (w : IsSearched g s) (range : InRange g) where
   down : {h : List (List ℕ)} {u v : ℕ} → h ≡ g → Reaches h u v → u < length g → (v < length g) × (get_or s.home v 0 ≤ get_or s.home u 0)
   down {u = u} {v = v} e (one ed) lt = let P : List (List ℕ) → Type 0 = λ x. Edge x u v in let f : Edge g u v = subst P e ed in
-    (range u v f, (w.good.closed_edges u v (w.all u lt) f).1)
+      (range u v f, (w.good.closed_edges u v (w.all u lt) f).1)
   down {u = u} e (more {v = x} ed p) lt =
-    let P : List (List ℕ) → Type 0 = λ y. Edge y u x in
-    let f : Edge g u x = subst P e ed in
-    let r = down e p (range u x f) in
-    let c : (get_or s.closed x false ≡ true) × (get_or s.home x 0 ≤ get_or s.home u 0) = w.good.closed_edges u x (w.all u lt) f in
-    (r.0, omega (arith, r.1, c.1))
+      let P : List (List ℕ) → Type 0 = λ y. Edge y u x in
+      let f : Edge g u x = subst P e ed in
+      let r = down e p (range u x f) in
+      let c : (get_or s.closed x false ≡ true) × (get_or s.home x 0 ≤ get_or s.home u 0) = w.good.closed_edges u x (w.all u lt) f in
+      (r.0, omega (arith, r.1, c.1))
 
   same : (u v : ℕ) → u < length g → Together g u v → get_or s.home u 0 ≡ get_or s.home v 0
   same u v lt (inl e) = ap (λ x. get_or s.home x 0) e
@@ -33,7 +33,7 @@ module _ (g : List (List ℕ)) (s : State) (w : IsSearched g s) (range : InRange
     len = w.good.home_len;
     below = λ v lt. w.good.closed_home v (w.all v lt);
     used = λ c lt. let o : (get_or s.closed (get_or s.heads c 0) false ≡ true) × (get_or s.home (get_or s.heads c 0) 0 ≡ c) = w.good.heads_closed c lt in
-      (get_or s.heads c 0, (let f : get_or s.heads c 0 < length s.closed = flag_in s.closed (get_or s.heads c 0) o.0 in omega (arith, w.good.closed_len)), o.1);
+        (get_or s.heads c 0, (let f : get_or s.heads c 0 < length s.closed = flag_in s.closed (get_or s.heads c 0) o.0 in omega (arith, w.good.closed_len)), o.1);
     sound = λ u v ul vl e. w.good.closed_together u v (w.all u ul) (w.all v vl) e;
     complete = λ u v ul t. same u v ul t;
     edges = λ u v ul ed. (w.good.closed_edges u v (w.all u ul) ed).1;

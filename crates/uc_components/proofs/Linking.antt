@@ -18,19 +18,21 @@ link_along g home a b c d e f h = let P : ℕ → Type 0 = λ x. IsLink g home x
 pub linked_more : (g : List (List ℕ)) (home : List ℕ) (n a b : ℕ) (references referrers : List (List ℕ)) → AreLinks g home n references referrers
     → IsLink g home a b → a < n → b < n → AreLinks g home n (pushed references a b) (pushed referrers b a)
 linked_more g home n a b references referrers h link al bl =
-  let af : a < length references = omega (arith, h.len) in
-  let bf : b < length referrers = omega (arith, h.back_len) in
-  record {
-    len = length-set references a (row references a ++ b ∷ []) ∙ h.len;
-    back_len = length-set referrers b (row referrers b ++ a ∷ []) ∙ h.back_len;
-    sound = λ c d ed. elim (edge_cases references a b af c d ed) [ inl o ↦ h.sound c d o | inr p ↦ link_along g home a b c d (sym p.0) (sym p.1) link ];
-    mirrored = λ c d ed. elim (edge_cases references a b af c d ed) [
-        inl o ↦ edge_keeps referrers b a bf d c (h.mirrored c d o)
-      | inr p ↦ edge_along (pushed referrers b a) b a d c (sym p.1) (sym p.0) (edge_new referrers b a bf) ];
-    back = λ c d ed. elim (edge_cases referrers b a bf d c ed) [
-        inl o ↦ edge_keeps references a b af c d (h.back c d o)
-      | inr p ↦ edge_along (pushed references a b) a b c d (sym p.1) (sym p.0) (edge_new references a b af) ];
-  }
+    let af : a < length references = omega (arith, h.len) in
+    let bf : b < length referrers = omega (arith, h.back_len) in
+    record {
+      len = length-set references a (row references a ++ b ∷ []) ∙ h.len;
+      back_len = length-set referrers b (row referrers b ++ a ∷ []) ∙ h.back_len;
+      sound = λ c d ed. elim (edge_cases references a b af c d ed) [ inl o ↦ h.sound c d o | inr p ↦ link_along g home a b c d (sym p.0) (sym p.1) link ];
+      mirrored = λ c d ed. elim (edge_cases references a b af c d ed) [
+        | inl o ↦ edge_keeps referrers b a bf d c (h.mirrored c d o)
+        | inr p ↦ edge_along (pushed referrers b a) b a d c (sym p.1) (sym p.0) (edge_new referrers b a bf)
+      ];
+      back = λ c d ed. elim (edge_cases referrers b a bf d c ed) [
+        | inl o ↦ edge_keeps references a b af c d (h.back c d o)
+        | inr p ↦ edge_along (pushed references a b) a b c d (sym p.1) (sym p.0) (edge_new references a b af)
+      ];
+    }
 
 -- a reference that was looked at
 pub covered_keeps : (home : List ℕ) (before after : List (List ℕ)) (u v : ℕ) → Keeps before after → IsCovered home before u v → IsCovered home after u v
@@ -52,17 +54,19 @@ keeps_trans a b c p q u v ed = q u v (p u v ed)
 pub covered_more : (g : List (List ℕ)) (home : List ℕ) (before after : List (List ℕ)) (u i t : ℕ) → Keeps before after → ((k : ℕ) → k < i → IsCovered home before u (get_or (row g u) k 0))
     → t ≡ get_or (row g u) i 0 → IsCovered home after u t → (k : ℕ) → k < i + 1 → IsCovered home after u (get_or (row g u) k 0)
 covered_more g home before after u i t keeps old e new k lt = elim (cases_lt k i) [
-    inl l ↦ covered_keeps home before after u (get_or (row g u) k 0) keeps (old k l)
+  | inl l ↦ covered_keeps home before after u (get_or (row g u) k 0) keeps (old k l)
   | inr ge ↦
       let q : i ≡ k = omega arith in
       let P : ℕ → Type 0 = λ x. IsCovered home after u x in
-      subst P (e ∙ ap (λ x. get_or (row g u) x 0) q) new ]
+      subst P (e ∙ ap (λ x. get_or (row g u) x 0) q) new
+]
 
 pub vertices_more : (g : List (List ℕ)) (home : List ℕ) (before after : List (List ℕ)) (i : ℕ) → Keeps before after → ((u v : ℕ) → u < i → Edge g u v → IsCovered home before u v)
     → ((v : ℕ) → Edge g i v → IsCovered home after i v) → (u v : ℕ) → u < i + 1 → Edge g u v → IsCovered home after u v
 vertices_more g home before after i keeps old new u v lt ed = elim (cases_lt u i) [
-    inl l ↦ covered_keeps home before after u v keeps (old u v l ed)
+  | inl l ↦ covered_keeps home before after u v keeps (old u v l ed)
   | inr ge ↦
       let q : i ≡ u = omega arith in
       let P : ℕ → Type 0 = λ x. Edge g x v → IsCovered home after x v in
-      subst P q (new v) ed ]
+      subst P q (new v) ed
+]

@@ -28,47 +28,57 @@ bounds_some g s t h lt = let q : get_or s.path t 0 < length s.opened = h.path_in
 pub merging_step : (g : List (List ℕ)) (s : State) (t k0 : ℕ) → Merging g s t → k0 + 1 ≡ length s.bounds → get_or s.index (target g s t) 0 < get_or s.bounds k0 0 → Merging g (merged s) t
 merging_step g s t k0 h ke low = record {
   looking = record { good = merged_good g s t (target g s t) k0 h.looking.good h.looking.top (edge_at_hand g s t h.looking) h.seen h.free ke low; top = h.looking.top; next = h.looking.next };
-  seen = h.seen; free = h.free;
+  seen = h.seen;
+  free = h.free;
 }
 
 pub merged_looked : (g : List (List ℕ)) (s : State) (t k0 : ℕ) → Merging g s t → k0 + 1 ≡ length s.bounds → get_or s.bounds k0 0 ≤ get_or s.index (target g s t) 0 → Looked g s t
 merged_looked g s t k0 h ke le = record {
-  good = h.looking.good; top = omega (arith, h.looking.top); next = h.looking.next;
-  known = (h.seen, λ fr k kl bl. elim (cases_lt k k0) [
-      inl l ↦ let q : get_or s.bounds k 0 < get_or s.bounds k0 0 = h.looking.good.bounds_up k k0 l (omega arith) in omega arith
-    | inr ge ↦ let e : k ≡ k0 = omega arith in let f : get_or s.bounds k 0 ≡ get_or s.bounds k0 0 = ap (λ x. get_or s.bounds x 0) e in omega arith ]);
+  good = h.looking.good;
+  top = omega (arith, h.looking.top);
+  next = h.looking.next;
+  known = (
+    h.seen,
+    λ fr k kl bl. elim (cases_lt k k0) [
+      | inl l ↦ let q : get_or s.bounds k 0 < get_or s.bounds k0 0 = h.looking.good.bounds_up k k0 l (omega arith) in omega arith
+      | inr ge ↦ let e : k ≡ k0 = omega arith in let f : get_or s.bounds k 0 ≡ get_or s.bounds k0 0 = ap (λ x. get_or s.bounds x 0) e in omega arith
+    ],
+  );
 }
 
 pub closed_looked : (g : List (List ℕ)) (s : State) (t : ℕ) → Looking g s t → get_or s.closed (target g s t) false ≡ true → Looked g s t
 closed_looked g s t h c = record {
-  good = h.good; top = omega (arith, h.top); next = h.next;
+  good = h.good;
+  top = omega (arith, h.top);
+  next = h.next;
   known = (h.good.closed_seen (target g s t) c, λ fr k kl bl. cc);
 }
 
 pub entered_looked : (g : List (List ℕ)) (s : State) (t : ℕ) → InRange g → Looking g s t → get_or s.seen (target g s t) false ≡ false → Looked g (entered s (target g s t)) t
 entered_looked g s t range h un =
-  let v : ℕ = target g s t in
-  let lt : v < length g = range (get_or s.opened (get_or s.path t 0) 0) v (edge_at_hand g s t h) in
-  let tl : t < length s.path = omega (arith, h.top) in
-  let m : ℕ = length s.opened in
-  let p : get_or (s.path ++ m ∷ []) t 0 ≡ get_or s.path t 0 = get_or_append_left s.path (m ∷ []) 0 t tl in
-  let o : get_or (s.opened ++ v ∷ []) (get_or s.path t 0) 0 ≡ get_or s.opened (get_or s.path t 0) 0 = get_or_append_left s.opened (v ∷ []) 0 (get_or s.path t 0) (h.good.path_in t tl) in
-  let n : get_or (s.nexts ++ 0 ∷ []) t 0 ≡ get_or s.nexts t 0 = get_or_append_left s.nexts (0 ∷ []) 0 t (omega (arith, h.good.nexts_len)) in
-  let P : ℕ → ℕ → Type 0 = λ x y. Known (entered s v) (get_or (s.path ++ m ∷ []) t 0) (get_or (row g (get_or (s.opened ++ v ∷ []) x 0)) y 0) in
-  let q : get_or (s.opened ++ v ∷ []) (get_or (s.path ++ m ∷ []) t 0) 0 ≡ get_or s.opened (get_or s.path t 0) 0 = ap (λ x. get_or (s.opened ++ v ∷ []) x 0) p ∙ o in
-  let e : target g (entered s v) t ≡ v = ap (λ x. get_or (row g x) (get_or (s.nexts ++ 0 ∷ []) t 0) 0) q ∙ ap (λ x. get_or (row g (get_or s.opened (get_or s.path t 0) 0)) x 0) n in
-  let i : get_or (set s.index v m) v 0 ≡ m = get_or-set_same s.index v m 0 (omega (arith, h.good.index_len)) in
-  let K : ℕ → Type 0 = λ y. Known (entered s v) (get_or (s.path ++ m ∷ []) t 0) y in
-  let N : ℕ → ℕ → Type 0 = λ x y. y < length (row g x) in
-  record {
-    good = entered_good g s v h.good lt un (λ u ue. let f : u ≡ t = omega (arith, h.top) in let E : ℕ → Type 0 = λ x. Edge g (get_or s.opened (get_or s.path x 0) 0) v in subst E (sym f) (edge_at_hand g s t h));
-    top = omega (arith, len_push s.path m, h.top);
-    known = subst K (sym e)
-      ( get_or-set_same s.seen v true false (omega (arith, h.good.seen_len))
-      , λ fr k kl bl. let B : ℕ → ℕ → Type 0 = λ x b. b ≤ get_or (set s.index v m) v 0 in
-          each_push B s.bounds m (λ x xl. let z : get_or s.bounds x 0 < m = h.good.bounds_in x xl in omega arith) (omega arith) k kl );
-    next = let A : ℕ → Type 0 = λ x. get_or (s.nexts ++ 0 ∷ []) t 0 < length (row g x) in subst A (sym q) (let C : ℕ → Type 0 = λ y. y < length (row g (get_or s.opened (get_or s.path t 0) 0)) in subst C (sym n) h.next);
-  }
+    let v : ℕ = target g s t in
+    let lt : v < length g = range (get_or s.opened (get_or s.path t 0) 0) v (edge_at_hand g s t h) in
+    let tl : t < length s.path = omega (arith, h.top) in
+    let m : ℕ = length s.opened in
+    let p : get_or (s.path ++ m ∷ []) t 0 ≡ get_or s.path t 0 = get_or_append_left s.path (m ∷ []) 0 t tl in
+    let o : get_or (s.opened ++ v ∷ []) (get_or s.path t 0) 0 ≡ get_or s.opened (get_or s.path t 0) 0 = get_or_append_left s.opened (v ∷ []) 0 (get_or s.path t 0) (h.good.path_in t tl) in
+    let n : get_or (s.nexts ++ 0 ∷ []) t 0 ≡ get_or s.nexts t 0 = get_or_append_left s.nexts (0 ∷ []) 0 t (omega (arith, h.good.nexts_len)) in
+    let P : ℕ → ℕ → Type 0 = λ x y. Known (entered s v) (get_or (s.path ++ m ∷ []) t 0) (get_or (row g (get_or (s.opened ++ v ∷ []) x 0)) y 0) in
+    let q : get_or (s.opened ++ v ∷ []) (get_or (s.path ++ m ∷ []) t 0) 0 ≡ get_or s.opened (get_or s.path t 0) 0 = ap (λ x. get_or (s.opened ++ v ∷ []) x 0) p ∙ o in
+    let e : target g (entered s v) t ≡ v = ap (λ x. get_or (row g x) (get_or (s.nexts ++ 0 ∷ []) t 0) 0) q ∙ ap (λ x. get_or (row g (get_or s.opened (get_or s.path t 0) 0)) x 0) n in
+    let i : get_or (set s.index v m) v 0 ≡ m = get_or-set_same s.index v m 0 (omega (arith, h.good.index_len)) in
+    let K : ℕ → Type 0 = λ y. Known (entered s v) (get_or (s.path ++ m ∷ []) t 0) y in
+    let N : ℕ → ℕ → Type 0 = λ x y. y < length (row g x) in
+    record {
+      good = entered_good g s v h.good lt un (λ u ue. let f : u ≡ t = omega (arith, h.top) in let E : ℕ → Type 0 = λ x. Edge g (get_or s.opened (get_or s.path x 0) 0) v in subst E (sym f) (edge_at_hand g s t h));
+      top = omega (arith, len_push s.path m, h.top);
+      known = subst K (sym e) (
+        get_or-set_same s.seen v true false (omega (arith, h.good.seen_len)),
+        λ fr k kl bl. let B : ℕ → ℕ → Type 0 = λ x b. b ≤ get_or (set s.index v m) v 0 in
+            each_push B s.bounds m (λ x xl. let z : get_or s.bounds x 0 < m = h.good.bounds_in x xl in omega arith) (omega arith) k kl,
+      );
+      next = let A : ℕ → Type 0 = λ x. get_or (s.nexts ++ 0 ∷ []) t 0 < length (row g x) in subst A (sym q) (let C : ℕ → Type 0 = λ y. y < length (row g (get_or s.opened (get_or s.path t 0) 0)) in subst C (sym n) h.next);
+    }
 
 -- steps of the code, with what its reads give
 
@@ -153,12 +163,13 @@ shut_grows s s' p closed home e = let P : State → Type 0 = λ x. Grows s x in 
 pub all_closed : (g : List (List ℕ)) (s : State) (v : ℕ) → Good g s → length s.path ≡ 0 → get_or s.seen v false ≡ true → get_or s.closed v false ≡ true
 all_closed g s v h pe se =
     elim (flag_cases (get_or s.closed v false)) [
-      inl c ↦ c
-    | inr f ↦
-        let o : (get_or s.index v 0 < length s.opened) × (get_or s.opened (get_or s.index v 0) 0 ≡ v) = h.seen_open v se f in
-        let b : (0 < length s.bounds) × (get_or s.bounds 0 0 ≡ 0) = h.bounds_first (omega (arith, o.0)) in
-        let j : (j : ℕ) × (j < length s.path) × (get_or s.path j 0 ≡ get_or s.bounds 0 0) = h.bounds_path 0 b.0 in
-        absurd (omega (arith, j.1)) ]
+      | inl c ↦ c
+      | inr f ↦
+          let o : (get_or s.index v 0 < length s.opened) × (get_or s.opened (get_or s.index v 0) 0 ≡ v) = h.seen_open v se f in
+          let b : (0 < length s.bounds) × (get_or s.bounds 0 0 ≡ 0) = h.bounds_first (omega (arith, o.0)) in
+          let j : (j : ℕ) × (j < length s.path) × (get_or s.path j 0 ≡ get_or s.bounds 0 0) = h.bounds_path 0 b.0 in
+          absurd (omega (arith, j.1))
+    ]
 
 -- the walk of one vertex begins
 pub begin : (g : List (List ℕ)) (s s' : State) (v : ℕ) → Good g s → v < length g → length s.path ≡ 0 → get_or s.seen v false ≡ false → s' ≡ entered s v → Good g s' × Grows s s' × (get_or s'.seen v false ≡ true)

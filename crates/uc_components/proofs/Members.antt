@@ -24,11 +24,13 @@ none_in x h = omega (arith, h.1)
 -- a greater one at the end of an ascending list
 pub ascending_more : (xs : List ℕ) (n : ℕ) → IsAscending xs → ((x : ℕ) → Contains xs x → x < n) → IsAscending (xs ++ n ∷ [])
 ascending_more [] n a b = (λ y h. absurd (none_in y h), tt)
-ascending_more (x ∷ xs) n a b =
-    ( λ y h. elim (Contains-append_cases xs (n ∷ []) y h) [
-        inl i ↦ a.0 y i
-      | inr i ↦ elim (in_cases n y [] i) [ inl e ↦ let q : x < n = b x (head_in x xs) in omega arith | inr o ↦ absurd (none_in y o) ] ]
-    , ascending_more xs n a.1 (λ y h. b y (tail_in x y xs h)) )
+ascending_more (x ∷ xs) n a b = (
+  λ y h. elim (Contains-append_cases xs (n ∷ []) y h) [
+    | inl i ↦ a.0 y i
+    | inr i ↦ elim (in_cases n y [] i) [ inl e ↦ let q : x < n = b x (head_in x xs) in omega arith | inr o ↦ absurd (none_in y o) ]
+  ],
+  ascending_more xs n a.1 (λ y h. b y (tail_in x y xs h)),
+)
 
 -- the first of an ascending list is its least
 pub first_least : (xs : List ℕ) (x : ℕ) → IsAscending xs → Contains xs x → get_or xs 0 0 ≤ x
@@ -62,22 +64,25 @@ edge_at g a b u v e f h = let P : ℕ → Type 0 = λ x. Edge g x v in let Q : �
 
 pub gathered_more : (home : List ℕ) (count i : ℕ) (parts : List (List ℕ)) → get_or home i 0 < count → IsGathered home count i parts → length (pushed parts (get_or home i 0) i) ≡ count → IsGathered home count (i + 1) (pushed parts (get_or home i 0) i)
 gathered_more home count i parts lt h le =
-  let al : get_or home i 0 < length parts = omega (arith, h.len) in
-  record {
-  len = le;
-  ascending = λ c. elim (cases_eq c (get_or home i 0)) [
-      inl e ↦
-        let P : List ℕ → Type 0 = λ xs. IsAscending xs in
-        let Q : ℕ → Type 0 = λ k. IsAscending (row (pushed parts (get_or home i 0) i) k) in
-        subst Q (sym e) (subst P (sym (row_same parts (get_or home i 0) i al)) (ascending_more (row parts (get_or home i 0)) i (h.ascending (get_or home i 0)) (λ x m. (h.sound (get_or home i 0) x m).0)))
-    | inr ne ↦ let P : List ℕ → Type 0 = λ xs. IsAscending xs in subst P (sym (row_other parts (get_or home i 0) i al c ne)) (h.ascending c) ];
-  sound = λ c v ed. elim (edge_cases parts (get_or home i 0) i al c v ed) [
-      inl o ↦ let q : (v < i) × (get_or home v 0 ≡ c) = h.sound c v o in (omega (arith, q.0), q.1)
-    | inr p ↦ (omega (arith, p.1), ap (λ x. get_or home x 0) p.1 ∙ sym p.0) ];
-  complete = λ v vl. elim (cases_lt v i) [
-      inl l ↦ edge_keeps parts (get_or home i 0) i al (get_or home v 0) v (h.complete v l)
-    | inr ge ↦ let e : i ≡ v = omega arith in edge_at (pushed parts (get_or home i 0) i) (get_or home i 0) i (get_or home v 0) v (ap (λ x. get_or home x 0) e) e (edge_new parts (get_or home i 0) i al) ];
-  }
+    let al : get_or home i 0 < length parts = omega (arith, h.len) in
+    record {
+      len = le;
+      ascending = λ c. elim (cases_eq c (get_or home i 0)) [
+        | inl e ↦
+            let P : List ℕ → Type 0 = λ xs. IsAscending xs in
+            let Q : ℕ → Type 0 = λ k. IsAscending (row (pushed parts (get_or home i 0) i) k) in
+            subst Q (sym e) (subst P (sym (row_same parts (get_or home i 0) i al)) (ascending_more (row parts (get_or home i 0)) i (h.ascending (get_or home i 0)) (λ x m. (h.sound (get_or home i 0) x m).0)))
+        | inr ne ↦ let P : List ℕ → Type 0 = λ xs. IsAscending xs in subst P (sym (row_other parts (get_or home i 0) i al c ne)) (h.ascending c)
+      ];
+      sound = λ c v ed. elim (edge_cases parts (get_or home i 0) i al c v ed) [
+        | inl o ↦ let q : (v < i) × (get_or home v 0 ≡ c) = h.sound c v o in (omega (arith, q.0), q.1)
+        | inr p ↦ (omega (arith, p.1), ap (λ x. get_or home x 0) p.1 ∙ sym p.0)
+      ];
+      complete = λ v vl. elim (cases_lt v i) [
+        | inl l ↦ edge_keeps parts (get_or home i 0) i al (get_or home v 0) v (h.complete v l)
+        | inr ge ↦ let e : i ≡ v = omega arith in edge_at (pushed parts (get_or home i 0) i) (get_or home i 0) i (get_or home v 0) v (ap (λ x. get_or home x 0) e) e (edge_new parts (get_or home i 0) i al)
+      ];
+    }
 
 pub gathered_all : (home : List ℕ) (count n : ℕ) (parts : List (List ℕ)) → length home ≤ n → n ≤ length home → IsGathered home count n parts → (c : ℕ) → c < count → IsMembers home c (row parts c)
 gathered_all home count n parts le ge h c cl = record {

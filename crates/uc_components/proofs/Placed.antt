@@ -36,58 +36,65 @@ module _ (g : List (List ℕ)) (home : List ℕ) (count : ℕ) (references refer
 
   leads : (placed : List Bool) (c u v : ℕ) → IsFree references placed c → u < length g → get_or home u 0 ≡ c → Edge g u v → (get_or home v 0 ≡ c) ⊎ (flag placed (get_or home v 0) ≡ true)
   leads placed c u v f lt e ed = elim (covered u v lt ed) [
-      inl q ↦ inl (q ∙ e)
-    | inr l ↦ let P : ℕ → Type 0 = λ z. Edge references z (get_or home v 0) in inr (f (get_or home v 0) (subst P e l)) ]
+    | inl q ↦ inl (q ∙ e)
+    | inr l ↦ let P : ℕ → Type 0 = λ z. Edge references z (get_or home v 0) in inr (f (get_or home v 0) (subst P e l))
+  ]
 
   ready_free : (placed : List Bool) (before : List ℕ) (v : ℕ) → ArePlaced home placed before → IsReady g before v → IsFree references placed (get_or home v 0)
   ready_free placed before v a r d ed =
       let l : IsLink g home (get_or home v 0) d = links.sound (get_or home v 0) d ed in
       elim (r.referred l.1 l.2 (w.sound v l.1 r.vertex l.3 (sym l.5)) l.4) [
-        inl t ↦ absurd (l.0 (sym l.6 ∙ sym (w.complete v l.2 r.vertex t)))
-      | inr c ↦ flag_along placed (get_or home l.2 0) d true l.6 (a.to l.2 (let q : l.2 < length g = range l.1 l.2 l.4 in omega (arith, w.len)) c) ]
+        | inl t ↦ absurd (l.0 (sym l.6 ∙ sym (w.complete v l.2 r.vertex t)))
+        | inr c ↦ flag_along placed (get_or home l.2 0) d true l.6 (a.to l.2 (let q : l.2 < length g = range l.1 l.2 l.4 in omega (arith, w.len)) c)
+      ]
 
   ready_new : (placed : List Bool) (before : List ℕ) (v : ℕ) → ArePlaced home placed before → IsReady g before v → flag placed (get_or home v 0) ≡ false
   ready_new placed before v a r = elim (bool_cases (flag placed (get_or home v 0))) [
-      inl t ↦ absurd (r.free (a.from v (omega (arith, w.len, r.vertex)) t))
-    | inr f ↦ f ]
+    | inl t ↦ absurd (r.free (a.from v (omega (arith, w.len, r.vertex)) t))
+    | inr f ↦ f
+  ]
 
   next_at : (placed : List Bool) (before xs : List ℕ) (c u : ℕ) → ArePlaced home placed before → IsMembers home c xs → Contains xs u → flag placed c ≡ false → IsFree references placed c
       → ((v : ℕ) → v < length home → flag placed (get_or home v 0) ≡ false → IsFree references placed (get_or home v 0) → u ≤ v) → IsNext g before u xs
   next_at placed before xs c u a m in_xs new free least =
-    let o : (u < length home) × (get_or home u 0 ≡ c) = m.sound u in_xs in
-    let ul : u < length g = omega (arith, w.len, o.0) in
-    record {
-      ready = record {
-        vertex = ul;
-        free = λ b. absurd (differ (sym (a.to u o.0 b) ∙ flag_along placed c (get_or home u 0) false (sym o.1) new));
-        referred = λ v y t ed.
-          let vl : v < length g = together_in u v ul t in
-          let e : get_or home u 0 ≡ get_or home v 0 = w.complete u v ul t in
-          let yl : y < length g = range v y ed in
-          elim (leads placed c v y free vl (sym e ∙ o.1) ed) [
-            inl q ↦ inl (w.sound u y ul yl (o.1 ∙ sym q))
-          | inr p ↦ inr (a.from y (omega (arith, w.len)) p) ];
-      };
-      least = λ v r. least v (omega (arith, w.len, r.vertex)) (ready_new placed before v a r) (ready_free placed before v a r);
-      component = record {
-        ascending = m.ascending;
-        sound = λ v i. let q : (v < length home) × (get_or home v 0 ≡ c) = m.sound v i in w.sound u v ul (omega (arith, w.len, q.0)) (o.1 ∙ sym q.1);
-        complete = λ v t. m.complete v (let q : v < length g = together_in u v ul t in omega (arith, w.len)) (sym (w.complete u v ul t) ∙ o.1);
-      };
-    }
+      let o : (u < length home) × (get_or home u 0 ≡ c) = m.sound u in_xs in
+      let ul : u < length g = omega (arith, w.len, o.0) in
+      record {
+        ready = record {
+          vertex = ul;
+          free = λ b. absurd (differ (sym (a.to u o.0 b) ∙ flag_along placed c (get_or home u 0) false (sym o.1) new));
+          referred = λ v y t ed.
+              let vl : v < length g = together_in u v ul t in
+              let e : get_or home u 0 ≡ get_or home v 0 = w.complete u v ul t in
+              let yl : y < length g = range v y ed in
+              elim (leads placed c v y free vl (sym e ∙ o.1) ed) [
+                | inl q ↦ inl (w.sound u y ul yl (o.1 ∙ sym q))
+                | inr p ↦ inr (a.from y (omega (arith, w.len)) p)
+              ];
+        };
+        least = λ v r. least v (omega (arith, w.len, r.vertex)) (ready_new placed before v a r) (ready_free placed before v a r);
+        component = record {
+          ascending = m.ascending;
+          sound = λ v i. let q : (v < length home) × (get_or home v 0 ≡ c) = m.sound v i in w.sound u v ul (omega (arith, w.len, q.0)) (o.1 ∙ sym q.1);
+          complete = λ v t. m.complete v (let q : v < length g = together_in u v ul t in omega (arith, w.len)) (sym (w.complete u v ul t) ∙ o.1);
+        };
+      }
 
   -- a component more is placed
   placed_more : (placed after : List Bool) (before xs : List ℕ) (c : ℕ) → ArePlaced home placed before → IsMembers home c xs
       → (flag after c ≡ true) → ((d : ℕ) → (d ≡ c → ⊥) → flag after d ≡ flag placed d) → ArePlaced home after (before ++ xs)
   placed_more placed after before xs c a m new other = record {
     to = λ v lt b. elim (cases_eq (get_or home v 0) c) [
-        inl e ↦ ap (λ x. flag after x) e ∙ new
+      | inl e ↦ ap (λ x. flag after x) e ∙ new
       | inr ne ↦ elim (Contains-append_cases before xs v b) [
-          inl i ↦ other (get_or home v 0) ne ∙ a.to v lt i
-        | inr i ↦ absurd (ne (m.sound v i).1) ] ];
+        | inl i ↦ other (get_or home v 0) ne ∙ a.to v lt i
+        | inr i ↦ absurd (ne (m.sound v i).1)
+      ]
+    ];
     from = λ v lt p. elim (cases_eq (get_or home v 0) c) [
-        inl e ↦ Contains-append_right before xs v (m.complete v lt e)
-      | inr ne ↦ Contains-append_left before xs v (a.from v lt (sym (other (get_or home v 0) ne) ∙ p)) ];
+      | inl e ↦ Contains-append_right before xs v (m.complete v lt e)
+      | inr ne ↦ Contains-append_left before xs v (a.from v lt (sym (other (get_or home v 0) ne) ∙ p))
+    ];
   }
 
   members_at : (h : List ℕ) (c : ℕ) (xs : List ℕ) → h ≡ home → IsMembers h c xs → IsMembers home c xs
@@ -102,7 +109,7 @@ module _ (g : List (List ℕ)) (home : List ℕ) (count : ℕ) (references refer
   taken_placed s t members before e k a =
       let P : List Bool → Type 0 = λ z. ArePlaced home z (before ++ members) in
       subst P (sym k.placed) (placed_more s.placed (set s.placed k.part true) before members k.part a (members_at s.home k.part members e k.is_part)
-        (get_or-set_same s.placed k.part true false k.below) (λ d ne. get_or-set_other s.placed k.part d true false ne))
+      (get_or-set_same s.placed k.part true false k.below) (λ d ne. get_or-set_other s.placed k.part d true false ne))
 
   -- one component more, in order
   order_more : (before : List ℕ) (cs : List (List ℕ)) (after : List ℕ) (u : ℕ) (xs : List ℕ) → IsOrderUpTo g before cs after → IsNext g after u xs → IsOrderUpTo g before (cs ++ xs ∷ []) (after ++ xs)
@@ -123,13 +130,15 @@ module _ (g : List (List ℕ)) (home : List ℕ) (count : ℕ) (references refer
   all_below : (s : Stage) → IsStage references s → AllKnown references s → ((x : ℕ) → Contains s.ready x → ⊥) → (n c : ℕ) → c < n → c < length s.placed → flag s.placed c ≡ true
   all_below s h all none zero c lt cl = absurd (omega arith)
   all_below s h all none (suc n) c lt cl = elim (bool_cases (flag s.placed c)) [
-      inl t ↦ t
+    | inl t ↦ t
     | inr f ↦ elim (all c cl f) [
-        inl m ↦ absurd (none (get_or (row s.parts c) 0 0) m)
+      | inl m ↦ absurd (none (get_or (row s.parts c) 0 0) m)
       | inr k ↦
           let d : ℕ = get_or (row references c) (get_or s.cursors c 0) 0 in
           let dl : d < c = h.descends c d (edge_value references c (get_or s.cursors c 0) k.0) in
-          absurd (differ (sym (all_below s h all none n d (omega arith) (omega arith)) ∙ k.1)) ] ]
+          absurd (differ (sym (all_below s h all none n d (omega arith) (omega arith)) ∙ k.1))
+    ]
+  ]
 
   pub finished : (s : Stage) (cs : List (List ℕ)) → s.home ≡ home → IsStage references s → AllKnown references s → ((x : ℕ) → Contains s.ready x → ⊥)
       → (before : List ℕ) × IsOrderUpTo g [] cs before × ArePlaced home s.placed before → IsOrderFrom g [] cs
@@ -149,14 +158,16 @@ pub start_stage : (references parts : List (List ℕ)) (home cursors ready : Lis
     → ((c : ℕ) → c < count → (v : ℕ) × (v < length home) × (get_or home v 0 ≡ c)) → ((c : ℕ) → get_or cursors c 0 ≡ 0) → ((c : ℕ) → flag placed c ≡ false) → ready ≡ []
     → IsStage references (record { home = home; parts = parts; placed = placed; cursors = cursors; ready = ready })
 start_stage references parts home cursors ready placed count rl pl al cl below down members used zeros new none = record {
-  len = rl ∙ sym al; parts_len = pl ∙ sym al; cursors_len = cl ∙ sym al;
+  len = rl ∙ sym al;
+  parts_len = pl ∙ sym al;
+  cursors_len = cl ∙ sym al;
   home_in = λ v lt. let q : get_or home v 0 < count = below v lt in omega arith;
   descends = down;
   parts = λ c lt f.
-    let cc_lt : c < count = omega arith in
-    let m : IsMembers home c (row parts c) = members c cc_lt in
-    let u : (v : ℕ) × (v < length home) × (get_or home v 0 ≡ c) = used c cc_lt in
-    (m, let i : Contains (row parts c) u.0 = m.complete u.0 u.1 u.2 in omega (arith, i.1));
+      let cc_lt : c < count = omega arith in
+      let m : IsMembers home c (row parts c) = members c cc_lt in
+      let u : (v : ℕ) × (v < length home) × (get_or home v 0 ≡ c) = used c cc_lt in
+      (m, let i : Contains (row parts c) u.0 = m.complete u.0 u.1 u.2 in omega (arith, i.1));
   passed = λ c k lt kl. absurd (omega (arith, zeros c));
   ready = λ x m. let P : List ℕ → Type 0 = λ z. Contains z x in let i : Contains [] x = subst P none m in absurd (omega (arith, i.1));
   closed = λ c p. absurd (differ (sym p ∙ new c));

@@ -39,12 +39,13 @@ module _ (rows : List (List ℕ)) (at item : ℕ) (lt : at < length rows) where
 
   pub edge_keeps : (c d : ℕ) → Edge rows c d → Edge (pushed rows at item) c d
   edge_keeps c d h = elim (cases_eq c at) [
-      inl e ↦
+    | inl e ↦
         let P : List ℕ → Type 0 = λ xs. Contains xs d in
         let Q : ℕ → Type 0 = λ k. Edge rows k d in
         let R : ℕ → Type 0 = λ k. Edge (pushed rows at item) k d in
         subst R (sym e) (subst P (sym row_same) (Contains-append_left (row rows at) (item ∷ []) d (subst Q e h)))
-    | inr ne ↦ let P : List ℕ → Type 0 = λ xs. Contains xs d in subst P (sym (row_other c ne)) h ]
+    | inr ne ↦ let P : List ℕ → Type 0 = λ xs. Contains xs d in subst P (sym (row_other c ne)) h
+  ]
 
   single : (d : ℕ) → Contains (item ∷ []) d → d ≡ item
   single d (zero, lt, e) = sym e
@@ -52,11 +53,13 @@ module _ (rows : List (List ℕ)) (at item : ℕ) (lt : at < length rows) where
 
   pub edge_cases : (c d : ℕ) → Edge (pushed rows at item) c d → Edge rows c d ⊎ ((c ≡ at) × (d ≡ item))
   edge_cases c d h = elim (cases_eq c at) [
-      inl e ↦
+    | inl e ↦
         let P : List ℕ → Type 0 = λ xs. Contains xs d in
         let Q : ℕ → Type 0 = λ k. Edge rows k d in
         let R : ℕ → Type 0 = λ k. Edge (pushed rows at item) k d in
         elim (Contains-append_cases (row rows at) (item ∷ []) d (subst P row_same (subst R e h))) [
-          inl o ↦ inl (subst Q (sym e) o)
-        | inr n ↦ inr (e, single d n) ]
-    | inr ne ↦ let P : List ℕ → Type 0 = λ xs. Contains xs d in inl (subst P (row_other c ne) h) ]
+          | inl o ↦ inl (subst Q (sym e) o)
+          | inr n ↦ inr (e, single d n)
+        ]
+    | inr ne ↦ let P : List ℕ → Type 0 = λ xs. Contains xs d in inl (subst P (row_other c ne) h)
+  ]

@@ -16,7 +16,7 @@ three : (M : List ℕ → Type 0) (k x : ℕ) (a b c : List ℕ) → M a → (k 
 three M k x a b c p q r =
     let N : Ordering → Type 0 = λ o. M (match_ordering o a b c) in
     by_ranked (k < x) (k ≡ x) (x < k) (nat_cmp k x) (ranked k x (nat_cmp k x) refl)
-      (λ e l. subst N (sym e) p) (λ e l. subst N (sym e) (q l)) (λ e l. subst N (sym e) r)
+    (λ e l. subst N (sym e) p) (λ e l. subst N (sym e) (q l)) (λ e l. subst N (sym e) r)
 
 pub insert_has : (xs : List ℕ) (k : ℕ) → Contains (insert_key nat_cmp xs k) k
 insert_has [] k = head_in k []
@@ -32,8 +32,9 @@ insert_cases [] k y h = elim (in_cases k y [] h) [ inl e ↦ inl (sym e) | inr i
 insert_cases (x ∷ xs) k y h = three (λ ys. Contains ys y → (y ≡ k) ⊎ Contains (x ∷ xs) y) k x (k ∷ x ∷ xs) (x ∷ xs) (x ∷ insert_key nat_cmp xs k)
     (λ h. elim (in_cases k y (x ∷ xs) h) [ inl e ↦ inl (sym e) | inr i ↦ inr i ]) (λ e h. inr h)
     (λ h. elim (in_cases x y (insert_key nat_cmp xs k) h) [
-        inl e ↦ inr (0, omega arith, e)
-      | inr i ↦ elim (insert_cases xs k y i) [ inl e ↦ inl e | inr o ↦ inr (tail_in x y xs o) ] ]) h
+      | inl e ↦ inr (0, omega arith, e)
+      | inr i ↦ elim (insert_cases xs k y i) [ inl e ↦ inl e | inr o ↦ inr (tail_in x y xs o) ]
+    ]) h
 
 less_equal : Less ≡ Equal → ⊥
 less_equal e = cc
@@ -47,14 +48,14 @@ above_is x y e = by_ranked (x < y) (x ≡ y) (y < x) (nat_cmp x y) (ranked x y (
 -- the first key is the least
 pub taken_first : (before after : List ℕ) (x : ℕ) → before ≡ x ∷ after → All (λ y. nat_cmp x y ≡ Less) after → TakesLeast before x after
 taken_first before after x e above =
-  let P : List ℕ → Type 0 = λ xs. TakesLeast xs x after in
-  let over : (y : ℕ) → Contains after y → x < y = λ y m. above_is x y (All-contains (λ y. nat_cmp x y ≡ Less) after y above m) in
-  subst P (sym e) (record {
-    has = head_in x after;
-    least = λ y m. elim (in_cases x y after m) [ inl q ↦ omega arith | inr i ↦ let q : x < y = over y i in omega arith ];
-    others = λ y m ne. elim (in_cases x y after m) [ inl q ↦ absurd (ne (sym q)) | inr i ↦ i ];
-    without = λ y m. (tail_in x y after m, λ q. let l : x < y = over y m in omega arith);
-  })
+    let P : List ℕ → Type 0 = λ xs. TakesLeast xs x after in
+    let over : (y : ℕ) → Contains after y → x < y = λ y m. above_is x y (All-contains (λ y. nat_cmp x y ≡ Less) after y above m) in
+    subst P (sym e) (record {
+      has = head_in x after;
+      least = λ y m. elim (in_cases x y after m) [ inl q ↦ omega arith | inr i ↦ let q : x < y = over y i in omega arith ];
+      others = λ y m ne. elim (in_cases x y after m) [ inl q ↦ absurd (ne (sym q)) | inr i ↦ i ];
+      without = λ y m. (tail_in x y after m, λ q. let l : x < y = over y m in omega arith);
+    })
 
 pub some_both : (P Q R : ℕ → Type 0) → ((x : ℕ) → P x → Q x → R x) → (o : Option ℕ) → IfSome o P → IfSome o Q → IfSome o R
 some_both P Q R f None p q = tt

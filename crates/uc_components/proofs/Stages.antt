@@ -12,8 +12,9 @@ use Rattle.uc_components.proofs.Places.{each_set}
 
 pub edge_in : (rows : List (List ℕ)) (c d : ℕ) → Edge rows c d → c < length rows
 edge_in rows c d h = elim (cases_lt c (length rows)) [
-    inl l ↦ l
-  | inr ge ↦ let P : List ℕ → Type 0 = λ xs. Contains xs d in absurd (none_in d (subst P (get_or_past rows c [] ge) h)) ]
+  | inl l ↦ l
+  | inr ge ↦ let P : List ℕ → Type 0 = λ xs. Contains xs d in absurd (none_in d (subst P (get_or_past rows c [] ge) h))
+]
 
 pub edge_value : (rows : List (List ℕ)) (c k : ℕ) → k < length (row rows c) → Edge rows c (get_or (row rows c) k 0)
 edge_value rows c k lt = Contains-get_or (row rows c) k 0 lt
@@ -39,11 +40,17 @@ module _ (references : List (List ℕ)) where
   pub moved_stage : (s : Stage) (c k : ℕ) → IsStage references s → c < length s.placed
       → ((j : ℕ) → get_or s.cursors c 0 ≤ j → j < k → j < length (row references c) → flag s.placed (get_or (row references c) j 0) ≡ true) → IsStage references (moved s c k)
   moved_stage s c k h cl new = record {
-    len = h.len; parts_len = h.parts_len; cursors_len = length-set s.cursors c k ∙ h.cursors_len; home_in = h.home_in; descends = h.descends; parts = h.parts; closed = h.closed;
+    len = h.len;
+    parts_len = h.parts_len;
+    cursors_len = length-set s.cursors c k ∙ h.cursors_len;
+    home_in = h.home_in;
+    descends = h.descends;
+    parts = h.parts;
+    closed = h.closed;
     ready = λ x m. front_moved s c k x (h.ready x m);
     passed = λ d j.
-      let P : ℕ → ℕ → Type 0 = λ i z. (j : ℕ) → j < z → j < length (row references i) → flag s.placed (get_or (row references i) j 0) ≡ true in
-      each_set P s.cursors c k (omega (arith, h.cursors_len)) (λ i ne j. h.passed i j)
+        let P : ℕ → ℕ → Type 0 = λ i z. (j : ℕ) → j < z → j < length (row references i) → flag s.placed (get_or (row references i) j 0) ≡ true in
+        each_set P s.cursors c k (omega (arith, h.cursors_len)) (λ i ne j. h.passed i j)
         (λ j jk jl. elim (cases_lt j (get_or s.cursors c 0)) [ inl l ↦ h.passed c j l jl | inr ge ↦ new j ge jk jl ]) d j;
   }
 
@@ -60,10 +67,18 @@ module _ (references : List (List ℕ)) where
 
   pub readied_stage : (s : Stage) (r : List ℕ) (x : ℕ) → IsStage references s → IsFront references s x → ((y : ℕ) → Contains r y → (y ≡ x) ⊎ Contains s.ready y) → IsStage references (readied s r)
   readied_stage s r x h f cases = record {
-    len = h.len; parts_len = h.parts_len; cursors_len = h.cursors_len; home_in = h.home_in; descends = h.descends; parts = h.parts; passed = h.passed; closed = h.closed;
+    len = h.len;
+    parts_len = h.parts_len;
+    cursors_len = h.cursors_len;
+    home_in = h.home_in;
+    descends = h.descends;
+    parts = h.parts;
+    passed = h.passed;
+    closed = h.closed;
     ready = λ y m. elim (cases y m) [
-        inl e ↦ let P : ℕ → Type 0 = λ z. IsFront references (readied s r) z in subst P (sym e) (front_readied s r x f)
-      | inr o ↦ front_readied s r y (h.ready y o) ];
+      | inl e ↦ let P : ℕ → Type 0 = λ z. IsFront references (readied s r) z in subst P (sym e) (front_readied s r x f)
+      | inr o ↦ front_readied s r y (h.ready y o)
+    ];
   }
 
   pub readied_known : (s : Stage) (r : List ℕ) (d : ℕ) → ((y : ℕ) → Contains s.ready y → Contains r y) → IsKnown references s d → IsKnown references (readied s r) d
@@ -114,8 +129,9 @@ module _ (references : List (List ℕ)) where
 
   pub pass_keeps : (s : Stage) (c k d : ℕ) → IsKnown references (moved s c k) c → IsKnown references s d → IsKnown references (moved s c k) d
   pass_keeps s c k d new old = elim (cases_eq d c) [
-      inl e ↦ let P : ℕ → Type 0 = λ z. IsKnown references (moved s c k) z in subst P (sym e) new
-    | inr ne ↦ moved_known s c k d ne old ]
+    | inl e ↦ let P : ℕ → Type 0 = λ z. IsKnown references (moved s c k) z in subst P (sym e) new
+    | inr ne ↦ moved_known s c k d ne old
+  ]
 
   -- past the last reference
   pub past_front : (s : Stage) (c from k x : ℕ) (xs : List ℕ) (ps : List Bool) → IsStage references s → c < length s.placed → flag s.placed c ≡ false → Passed s c from k xs ps → length xs ≤ k
@@ -135,8 +151,9 @@ module _ (references : List (List ℕ)) where
   pub past_keeps : (s : Stage) (c k x d : ℕ) (r : List ℕ) → x ≡ get_or (row s.parts c) 0 0 → Contains r x → ((y : ℕ) → Contains s.ready y → Contains r y)
       → IsKnown references s d → IsKnown references (readied (moved s c k) r) d
   past_keeps s c k x d r e h keeps old = elim (cases_eq d c) [
-      inl q ↦ let P : ℕ → Type 0 = λ z. IsKnown references (readied (moved s c k) r) z in subst P (sym q) (past_known s c k x r e h)
-    | inr ne ↦ readied_known (moved s c k) r d keeps (moved_known s c k d ne old) ]
+    | inl q ↦ let P : ℕ → Type 0 = λ z. IsKnown references (readied (moved s c k) r) z in subst P (sym q) (past_known s c k x r e h)
+    | inr ne ↦ readied_known (moved s c k) r d keeps (moved_known s c k d ne old)
+  ]
 
   pub pass_in : (s : Stage) (c : ℕ) (xs : List ℕ) (ps : List Bool) → IsStage references s → xs ≡ row references c → ps ≡ s.placed → (k : ℕ) → k < length xs → get_or xs k 0 < length ps
   pass_in s c xs ps h e f k lt =

@@ -68,7 +68,8 @@ entered s v = record s {
   path = s.path ++ length s.opened ∷ [];
   nexts = s.nexts ++ 0 ∷ [];
   seen = slice_set s.seen v true;
-  index = slice_set s.index v (length s.opened) }
+  index = slice_set s.index v (length s.opened);
+}
 
 -- one more reference was looked at
 abbrev pub counted : State → ℕ → State
@@ -101,7 +102,8 @@ shut s from closed home = record s {
   bounds = without_last s.bounds;
   path = without_last s.path;
   nexts = without_last s.nexts;
-  heads = s.heads ++ slice_index s.opened from ∷ [] }
+  heads = s.heads ++ slice_index s.opened from ∷ [];
+}
 
 -- the vertex to which the reference at hand leads
 abbrev pub target : List (List ℕ) → State → ℕ → ℕ

@@ -26,7 +26,13 @@ fn link(links: &mut Links, from: usize, to: usize) -> Result<(), AllocError>
 }
 
 // Links a component for one reference of a member.
-fn link_reference(links: &mut Links, _graph: &Graph, home: &[usize], _vertex: usize, target: usize) -> Result<(), AllocError>
+fn link_reference(
+    links: &mut Links,
+    _graph: &Graph,
+    home: &[usize],
+    _vertex: usize,
+    target: usize,
+) -> Result<(), AllocError>
     requires vertex { _vertex < length _graph.now }
     requires edge { Edge _graph.now _vertex target }
     requires below { (v : ℕ) → v < length _graph.now → slice_index home.now v < length (lists links.old.references) }
@@ -46,7 +52,12 @@ fn link_reference(links: &mut Links, _graph: &Graph, home: &[usize], _vertex: us
 }
 
 // Links a component for each reference of a member.
-fn link_vertex(links: &mut Links, graph: &Graph, home: &[usize], vertex: usize) -> Result<(), AllocError>
+fn link_vertex(
+    links: &mut Links,
+    graph: &Graph,
+    home: &[usize],
+    vertex: usize,
+) -> Result<(), AllocError>
     requires vertex { vertex < length graph.now }
     requires below { (v : ℕ) → v < length graph.now → slice_index home.now v < length (lists links.old.references) }
     requires range { InRange graph.now }
@@ -64,7 +75,12 @@ fn link_vertex(links: &mut Links, graph: &Graph, home: &[usize], vertex: usize) 
 }
 
 /// The graph of the components.
-pub fn linked(alloc: Global, graph: &Graph, home: &[usize], count: usize) -> Result<Links, AllocError>
+pub fn linked(
+    alloc: Global,
+    graph: &Graph,
+    home: &[usize],
+    count: usize,
+) -> Result<Links, AllocError>
     requires below { (v : ℕ) → v < length graph.now → slice_index home.now v < count }
     requires range { InRange graph.now }
     requires home { length home.now ≡ length graph.now }

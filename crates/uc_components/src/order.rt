@@ -165,7 +165,12 @@ fn begun(alloc: Global, links: &Links, home: Vec<usize>, count: usize) -> Result
     Ok(queue)
 }
 
-fn ordered(alloc: Global, graph: &Graph, home: Vec<usize>, count: usize) -> Result<Vec<Vec<u32>>, AllocError>
+fn ordered(
+    alloc: Global,
+    graph: &Graph,
+    home: Vec<usize>,
+    count: usize,
+) -> Result<Vec<Vec<u32>>, AllocError>
     requires range { InRange graph.now }
     requires small { length graph.now < 2 ^ 32 }
     requires home { IsHome graph.now home.items count }

@@ -5,7 +5,6 @@ ghost use Rattle.uc_components.specs.Searched.{state_of, entered, counted, Good}
 use crate::graph::Graph;
 use std::alloc::{AllocError, Global};
 
-
 #[derive(Drop)]
 pub struct Search {
     pub seen: Vec<bool>,
@@ -239,5 +238,8 @@ pub fn find_homes(alloc: Global, graph: &Graph) -> Result<Homes, AllocError>
 {
     let search = searched(alloc, graph)?;
     let count = search.heads.len();
-    Ok(Homes { home: search.home, count })
+    Ok(Homes {
+        home: search.home,
+        count,
+    })
 }

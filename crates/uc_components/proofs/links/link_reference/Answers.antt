@@ -8,7 +8,7 @@ use Rattle.uc_components.proofs.links.link_reference.Goals as goal
 pub returns-in_ok-link-clause-links : goal.returns-in_ok-link-clause-links
 returns-in_ok-link-clause-links c = rw (c.in_ok-link.ensures.references, c.in_ok-link.ensures.referrers)
     (linked_more _ _ _ _ _ _ _ c.requires.links (c.if-to-from.true, c.args._vertex, c.args.target, c.requires.vertex, c.requires.edge, refl, refl)
-      (c.requires.below _ c.requires.vertex) (c.requires.below _ (omega (arith, c.requires.home, c.requires.target))))
+    (c.requires.below _ c.requires.vertex) (c.requires.below _ (omega (arith, c.requires.home, c.requires.target))))
 
 pub returns-in_ok-link-clause-covered : goal.returns-in_ok-link-clause-covered
 returns-in_ok-link-clause-covered c = rw c.in_ok-link.ensures.references (inr (edge_new _ _ _ (c.requires.below _ c.requires.vertex)))

@@ -16,9 +16,9 @@ loop-part-init c =
     let P : List ℕ → Type 0 = λ z. (d : ℕ) → d < c.args.count → IsMembers z d (row (lists c.in_ok-parts.parts) d) in
     record {
       stage = start_stage (lists c.args.links.now.references) (lists c.in_ok-parts.parts) c.args.home.items c.in_ok-vec-2.field-0.items c.new.result.keys c.in_ok-vec.field-0.items c.args.count
-        c.requires.len c.in_ok-parts.ensures.len count (omega (arith, c.in_ok-vec-2.ensures.len, c.in_ok-vec-2.field-0.ok)) c.requires.below c.requires.descends
-        (subst P c.as_slice.ensures.value c.in_ok-parts.ensures.members) c.requires.used
-        (λ d. ap (λ xs. get_or xs d 0) zeros ∙ copies c.args.count d 0) new c.new.ensures.empty;
+          c.requires.len c.in_ok-parts.ensures.len count (omega (arith, c.in_ok-vec-2.ensures.len, c.in_ok-vec-2.field-0.ok)) c.requires.below c.requires.descends
+          (subst P c.as_slice.ensures.value c.in_ok-parts.ensures.members) c.requires.used
+          (λ d. ap (λ xs. get_or xs d 0) zeros ∙ copies c.args.count d 0) new c.new.ensures.empty;
       known = λ k lt. absurd (omega arith);
       new = new;
       home = refl;
@@ -29,8 +29,8 @@ pub loop-part-preserved : goal.loop-part-preserved
 loop-part-preserved c = record {
   stage = c.in_ok-advance.ensures.stage;
   known =
-    let P : ℕ → Type 0 = λ k. IsKnown (lists c.args.links.now.references) (stage_of c.advance.new.queue) k in
-    below_more P _ (λ k lt. c.in_ok-advance.ensures.keeps k (c.loop-part.invariant.known k lt)) c.in_ok-advance.ensures.known;
+      let P : ℕ → Type 0 = λ k. IsKnown (lists c.args.links.now.references) (stage_of c.advance.new.queue) k in
+      below_more P _ (λ k lt. c.in_ok-advance.ensures.keeps k (c.loop-part.invariant.known k lt)) c.in_ok-advance.ensures.known;
   new = λ d. ap (λ (q : Queue). get_or q.placed.items d false) c.in_ok-advance.ensures.same ∙ c.loop-part.invariant.new d;
   home = ap (λ (q : Queue). q.home.items) c.in_ok-advance.ensures.same ∙ c.loop-part.invariant.home;
   count = ap (λ (q : Queue). length q.placed.items) c.in_ok-advance.ensures.same ∙ c.loop-part.invariant.count;

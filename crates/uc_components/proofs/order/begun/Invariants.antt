@@ -6,9 +6,9 @@ use Rattle.uc_components.proofs.order.begun.Given as goal
 
 abbrev pub invariant-loop-part : goal.invariant-loop-part
 invariant-loop-part l = record {
-    stage : IsStage (lists l.links.references) (stage_of l.queue);
-    known : (k : ℕ) → k < l.part → IsKnown (lists l.links.references) (stage_of l.queue) k;
-    new : (c : ℕ) → flag l.queue.placed.items c ≡ false;
-    home : l.queue.home.items ≡ l.fn.home.items;
-    count : length l.queue.placed.items ≡ l.count
-  }
+  stage : IsStage (lists l.links.references) (stage_of l.queue);
+  known : (k : ℕ) → k < l.part → IsKnown (lists l.links.references) (stage_of l.queue) k;
+  new : (c : ℕ) → flag l.queue.placed.items c ≡ false;
+  home : l.queue.home.items ≡ l.fn.home.items;
+  count : length l.queue.placed.items ≡ l.count;
+}

@@ -43,9 +43,9 @@ returns-clause-some c =
     let P : ℕ → ℕ → Type 0 = λ d p. Edge (lists c.args.links.now.referrers) p d in
     let K : ℕ → Stage → Type 0 = λ d z. IsKnown (lists c.args.links.now.references) z d in
     taken (lists c.args.links.now.references) s x r c.requires.stage c.in-Some.ensures.some (stage_of c.wake.new.queue) c.place-members.result.items c.requires.known
-      (c.place-members.ensures.members ∙ ap (λ p. row s.parts p) pe)
-      (ap (λ (q : Queue). q.home.items) c.in_ok-wake.ensures.same ∙ ap (λ (z : Stage). z.home) me)
-      (ap (λ (q : Queue). q.placed.items) c.in_ok-wake.ensures.same ∙ ap (λ (z : Stage). z.placed) me)
-      c.in_ok-wake.ensures.stage
-      (λ d ed. c.in_ok-wake.ensures.known d (subst (P d) (sym pe) (c.requires.mirrored d (get_or s.home x 0) ed)))
-      (λ d k. c.in_ok-wake.ensures.keeps d (subst (K d) (sym me) k))
+    (c.place-members.ensures.members ∙ ap (λ p. row s.parts p) pe)
+    (ap (λ (q : Queue). q.home.items) c.in_ok-wake.ensures.same ∙ ap (λ (z : Stage). z.home) me)
+    (ap (λ (q : Queue). q.placed.items) c.in_ok-wake.ensures.same ∙ ap (λ (z : Stage). z.placed) me)
+    c.in_ok-wake.ensures.stage
+    (λ d ed. c.in_ok-wake.ensures.known d (subst (P d) (sym pe) (c.requires.mirrored d (get_or s.home x 0) ed)))
+    (λ d k. c.in_ok-wake.ensures.keeps d (subst (K d) (sym me) k))

@@ -22,11 +22,11 @@ loop-components-init c = record {
   home = c.in_ok-queue.ensures.home;
   count = c.in_ok-queue.ensures.count;
   order =
-    let P : List (Vec ℕ Global) → Type 0 = λ z. (before : List ℕ) × IsOrderUpTo c.args.graph.now [] (map (λ (r : Vec ℕ Global). r.items) z) before × ArePlaced c.args.home.items c.in_ok-queue.queue.placed.items before in
-    subst P (sym c.new-components.ensures.items)
+      let P : List (Vec ℕ Global) → Type 0 = λ z. (before : List ℕ) × IsOrderUpTo c.args.graph.now [] (map (λ (r : Vec ℕ Global). r.items) z) before × ArePlaced c.args.home.items c.in_ok-queue.queue.placed.items before in
+      subst P (sym c.new-components.ensures.items)
       (nothing_placed c.args.graph.now c.args.home.items c.args.count (lists c.in_ok-links.links.references) (lists c.in_ok-links.links.referrers) c.requires.home c.requires.range
-        (links_at _ _ _ _ _ _ c.as_slice.ensures.value c.in_ok-links.ensures.links) (covered_in _ _ _ _ c.as_slice.ensures.value c.in_ok-links.ensures.covered)
-        c.in_ok-queue.queue.placed.items c.in_ok-queue.ensures.new);
+      (links_at _ _ _ _ _ _ c.as_slice.ensures.value c.in_ok-links.ensures.links) (covered_in _ _ _ _ c.as_slice.ensures.value c.in_ok-links.ensures.covered)
+      c.in_ok-queue.queue.placed.items c.in_ok-queue.ensures.new);
 }
 
 pub loop-components-preserved : goal.loop-components-preserved
@@ -39,17 +39,17 @@ loop-components-preserved c =
       home = k.home ∙ c.loop-components.invariant.home;
       count = ap (λ z. length z) k.placed ∙ length-set c.loop-components.queue.placed.items k.part true ∙ c.loop-components.invariant.count;
       order =
-        let P : List (List ℕ) → Type 0 = λ z. (before : List ℕ) × IsOrderUpTo c.args.graph.now [] z before × ArePlaced c.args.home.items c.next.new.queue.placed.items before in
-        subst P (sym (ap (λ (z : List (Vec ℕ Global)). map (λ (r : Vec ℕ Global). r.items) z) c.in_ok-push.ensures.items ∙ lists_more c.loop-components.components.items c.in-Some.members))
+          let P : List (List ℕ) → Type 0 = λ z. (before : List ℕ) × IsOrderUpTo c.args.graph.now [] z before × ArePlaced c.args.home.items c.next.new.queue.placed.items before in
+          subst P (sym (ap (λ (z : List (Vec ℕ Global)). map (λ (r : Vec ℕ Global). r.items) z) c.in_ok-push.ensures.items ∙ lists_more c.loop-components.components.items c.in-Some.members))
           (order_step c.args.graph.now c.args.home.items c.args.count (lists c.in_ok-links.links.references) (lists c.in_ok-links.links.referrers) c.requires.home c.requires.range
-            (links_at _ _ _ _ _ _ c.as_slice.ensures.value c.in_ok-links.ensures.links) (covered_in _ _ _ _ c.as_slice.ensures.value c.in_ok-links.ensures.covered)
-            (stage_of c.loop-components.queue) (stage_of c.next.new.queue) c.in-Some.members.items (lists c.loop-components.components) c.loop-components.invariant.home k c.loop-components.invariant.order);
+          (links_at _ _ _ _ _ _ c.as_slice.ensures.value c.in_ok-links.ensures.links) (covered_in _ _ _ _ c.as_slice.ensures.value c.in_ok-links.ensures.covered)
+          (stage_of c.loop-components.queue) (stage_of c.next.new.queue) c.in-Some.members.items (lists c.loop-components.components) c.loop-components.invariant.home k c.loop-components.invariant.order);
     }
 
 pub returns : goal.returns
 returns c =
     finished c.args.graph.now c.args.home.items c.args.count (lists c.in_ok-links.links.references) (lists c.in_ok-links.links.referrers) c.requires.home c.requires.range
-      (links_at _ _ _ _ _ _ c.as_slice.ensures.value c.in_ok-links.ensures.links) (covered_in _ _ _ _ c.as_slice.ensures.value c.in_ok-links.ensures.covered)
-      (stage_of c.loop-components.queue) (lists c.loop-components.components) c.loop-components.invariant.home c.loop-components.invariant.stage c.loop-components.invariant.known
-      (let Q : Option (Vec ℕ Global) → Type 0 = λ o. IfNone o ((x : ℕ) → Contains c.loop-components.queue.ready.keys x → ⊥) in subst Q c.in_default.is c.in_ok-members.ensures.none)
-      c.loop-components.invariant.order
+    (links_at _ _ _ _ _ _ c.as_slice.ensures.value c.in_ok-links.ensures.links) (covered_in _ _ _ _ c.as_slice.ensures.value c.in_ok-links.ensures.covered)
+    (stage_of c.loop-components.queue) (lists c.loop-components.components) c.loop-components.invariant.home c.loop-components.invariant.stage c.loop-components.invariant.known
+    (let Q : Option (Vec ℕ Global) → Type 0 = λ o. IfNone o ((x : ℕ) → Contains c.loop-components.queue.ready.keys x → ⊥) in subst Q c.in_default.is c.in_ok-members.ensures.none)
+    c.loop-components.invariant.order

@@ -15,12 +15,12 @@ loop-other-preserved c = record {
   stage = c.in_ok-advance.ensures.stage;
   same = c.in_ok-advance.ensures.same ∙ ap (λ (q : Queue). record q { cursors = c.advance.new.queue.cursors; ready = c.advance.new.queue.ready }) c.loop-other.invariant.same;
   known =
-    let P : ℕ → Type 0 = λ k. IsKnown (lists c.args.links.now.references) (stage_of c.advance.new.queue) (get_or c.row_at-referrers.result.now k 0) in
-    below_more P _ (λ k lt. c.in_ok-advance.ensures.keeps _ (c.loop-other.invariant.known k lt)) c.in_ok-advance.ensures.known;
+      let P : ℕ → Type 0 = λ k. IsKnown (lists c.args.links.now.references) (stage_of c.advance.new.queue) (get_or c.row_at-referrers.result.now k 0) in
+      below_more P _ (λ k lt. c.in_ok-advance.ensures.keeps _ (c.loop-other.invariant.known k lt)) c.in_ok-advance.ensures.known;
   keeps = λ d h. c.in_ok-advance.ensures.keeps d (c.loop-other.invariant.keeps d h);
 }
 
 pub returns-clause-known : goal.returns-clause-known
 returns-clause-known c =
     each_of (λ d. IsKnown (lists c.args.links.now.references) (stage_of c.loop-other.queue) d) (lists c.args.links.now.referrers) c.args.part c.row_at-referrers.result.now c.row_at-referrers.ensures
-      (λ k lt. c.loop-other.invariant.known k (omega (arith, c.loop-other-test.false)))
+    (λ k lt. c.loop-other.invariant.known k (omega (arith, c.loop-other-test.false)))

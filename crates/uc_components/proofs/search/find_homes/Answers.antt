@@ -1,5 +1,4 @@
 use Rattle.std.proofs.Common.{◌≡◌, length, arith}
-
 use Rattle.uc_components.specs.Searched.{state_of}
 use Rattle.uc_components.proofs.Finished.{found}
 use Rattle.uc_components.proofs.search.find_homes.Goals as goal

@@ -1,6 +1,5 @@
 use Rattle.std.proofs.Common.{rules, ◌≡◌, ℕ, length, ◌<◌, ◌≤◌, ◌-◌, ◌+◌, arith, get_or, take, sym, ◌∙◌, subst, Bool, true, false}
 use Rattle.std.proofs.lemmas.Result.{IfOk-weaker}
-
 use Rattle.uc_components.specs.Searched.{state_of, State}
 use Rattle.uc_components.proofs.Looks.{leave_shut, leave_plain, shut_grows}
 use Rattle.uc_components.proofs.search.leave.Goals as goal

@@ -1,6 +1,5 @@
 use Rattle.std.proofs.Common.{rules, ◌≡◌, ℕ, length, ◌<◌, ◌≤◌, ◌-◌, ◌+◌, arith, get_or, take, sym, ◌∙◌, subst, Bool, true, false}
 use Rattle.std.proofs.lemmas.Result.{IfOk-weaker}
-
 use Rattle.uc_components.specs.Searched.{state_of, State, target, Looked}
 use Rattle.uc_components.proofs.Looks.{target_at, target_in, flag_at, low_at, enter_grows, look_enter, look_closed, look_merging}
 use Rattle.uc_components.proofs.search.look.Goals as goal

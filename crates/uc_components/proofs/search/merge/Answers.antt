@@ -1,6 +1,5 @@
 use Rattle.std.proofs.Common.{rules, ◌≡◌, ℕ, length, ◌<◌, ◌≤◌, ◌-◌, ◌+◌, arith, get_or, take, sym, ◌∙◌, subst}
 use Rattle.uc_components.specs.Searched.{state_of, State, merged, Merging, target}
-
 use Rattle.uc_components.proofs.Looks.{merge_more, merge_done, bounds_some}
 use Rattle.uc_components.proofs.search.merge.Goals as goal
 

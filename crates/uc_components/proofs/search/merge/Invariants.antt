@@ -1,5 +1,4 @@
 use Rattle.std.proofs.Common.{◌≡◌, length, slice_index}
-
 use Rattle.uc_components.specs.Searched.{state_of, Merging, target}
 use Rattle.uc_components.proofs.search.merge.Given as goal
 

@@ -1,5 +1,4 @@
 use Rattle.std.proofs.Common.{◌≡◌, ℕ, ◌<◌, length, true}
-
 use Rattle.uc_components.specs.Searched.{state_of, Good, flag}
 use Rattle.uc_components.proofs.search.searched.Given as goal
 

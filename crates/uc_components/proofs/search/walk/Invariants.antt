@@ -1,4 +1,3 @@
-
 use Rattle.uc_components.specs.Searched.{state_of, Good, Grows}
 use Rattle.uc_components.proofs.search.walk.Given as goal
 
