@@ -37,3 +37,6 @@ pub use target::Target;
 pub use targets::targets_of;
 pub use term::{Case, Term, TermNode};
 pub use ty::{Ty, TyNode};
+
+#[cfg(test)]
+mod tests;
