@@ -1,8 +1,10 @@
 //! The digest that a stored component stands under.
-ghost use Rattle.std.specs.Prelude.{◌≡◌, ◌↔◌, IsTrue, IsSome, IfSome};
+ghost use Rattle.std.specs.Prelude.{◌≡◌, ◌↔◌, ◌++◌, IsTrue, IsSome, IfSome, OnOk};
 ghost use Rattle.hex.specs.Hex.{encode_lower};
 ghost use Rattle.uc_base.specs.Hash as spec;
 ghost use Rattle.uc_base.specs.Hash.{IsHashText};
+
+use std::alloc::AllocError;
 
 /// A digest of 64 bytes. Order is that of the bytes, which is that of the text.
 #[derive(Clone, Copy, Debug, PartialEq, Eq, PartialOrd, Ord, Hash)]
@@ -32,6 +34,15 @@ impl Hash {
             Ok(()) => {}
             Err(_) => unreachable!(),
         }
+    }
+
+    /// Writes the digits behind what stands in a vector.
+    pub fn append_text(&self, out: &mut Vec<u8>) -> Result<(), AllocError>
+        ensures { OnOk result (out.new.items ≡ out.old.items ++ encode_lower self.now.0) }
+    {
+        let mut digits = [0; HASH_TEXT_LEN];
+        self.write_text(&mut digits);
+        out.extend_from_slice(&digits)
     }
 
     /// The hash of a text of digits.

@@ -22,8 +22,8 @@ pub use fault::{Fault, MEMORY_LINE};
 pub use graph::{component_order_is_unique, parts_agree};
 pub use hash::{HASH_TEXT_LEN, Hash};
 pub use name::{
-    NAME_LIMIT, Name, begins_comment, is_digit, is_keyword, is_left_out, is_letter, is_name,
-    is_operator, is_reserved, is_wordy,
+    NAME_LIMIT, Name, begins_comment, first_segment, is_digit, is_keyword, is_left_out, is_letter,
+    is_name, is_operator, is_reserved, is_wordy,
 };
 pub use place::{At, Place, Sort, Spot};
 pub use reference::Ref;

@@ -143,8 +143,8 @@ fn is_operator_segment(text: &[u8]) -> bool
         && !(is_reserved(text) || text == b"!".as_slice() || begins_comment(text))
 }
 
-/// The first segment, and what stands behind its dot; `None` where there is no dot.
-fn first_segment(text: &[u8]) -> Option<(&[u8], &[u8])>
+/// The first segment of a text, and what stands behind its dot; `None` where there is no dot.
+pub fn first_segment(text: &[u8]) -> Option<(&[u8], &[u8])>
     ensures segments { MatchOption result (segments_of text.now ≡ text.now ∷ [])
         (λ x. segments_of text.now ≡ x.0.now ∷ segments_of x.1.now) }
     ensures shorter { MatchOption result ⊤ (λ x. length x.1.now < length text.now) }

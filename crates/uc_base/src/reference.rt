@@ -1,11 +1,10 @@
 //! What a stored definition, a constructor or a builtin is called.
 ghost use Rattle.std.specs.Prelude.{◌≡◌, ◌++◌, OnOk};
 ghost use Rattle.uc_base.specs.Ref.{ref_text, member_text};
-ghost use Rattle.hex.specs.Hex.{encode_lower};
 
 use crate::builtin::builtin_name_of;
 use crate::decimal::write_decimal;
-use crate::hash::{HASH_TEXT_LEN, Hash};
+use crate::hash::Hash;
 use std::alloc::AllocError;
 
 /// A reference, ordered as written: kind, hash, numbers.
@@ -19,19 +18,11 @@ pub enum Ref {
     Builtin(u16),
 }
 
-fn write_hash(hash: &Hash, out: &mut Vec<u8>) -> Result<(), AllocError>
-    ensures { OnOk result (out.new.items ≡ out.old.items ++ encode_lower hash.now.0) }
-{
-    let mut digits = [0; HASH_TEXT_LEN];
-    hash.write_text(&mut digits);
-    out.extend_from_slice(&digits)
-}
-
 fn write_member(hash: &Hash, member: u32, out: &mut Vec<u8>) -> Result<(), AllocError>
     ensures { OnOk result (out.new.items ≡ out.old.items ++ member_text hash.now.0 member) }
 {
     out.push(b'#')?;
-    write_hash(hash, out)?;
+    hash.append_text(out)?;
     if member != 0 {
         out.push(b'.')?;
         write_decimal(u64::from(member), out)?;

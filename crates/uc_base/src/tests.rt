@@ -1,5 +1,10 @@
 //! Printed texts and look-ups.
-use crate::{Fault, Hash, Place, Ref, builtin_name_of, builtin_number_of, read_decimal};
+use crate::{
+    At, Bytes, Fault, Hash, Name, Place, Ref, Spot, builtin_name_of, builtin_number_of,
+    read_decimal,
+};
+use std::alloc::Global;
+use std::process::Abort;
 use std::test::Fail;
 
 /// SHA-512 of `abc`, FIPS 180-4.
@@ -31,22 +36,69 @@ fn prints_references(rt: HostRuntime) -> Result<(), Fail> {
     Ok(())
 }
 
+fn check_line(rt: &impl Abort, alloc: Global, fault: Fault, line: &str) -> Result<(), Fail> {
+    assert_eq!(rt; fault.line(alloc)?.as_slice(), line.as_bytes());
+    Ok(())
+}
+
 #[test]
-fn prints_faults(rt: HostRuntime) -> Result<(), Fail> {
+fn prints_places(rt: HostRuntime) -> Result<(), Fail> {
+    let alloc = rt.alloc();
     let place = Place { line: 1, column: 5 };
     for (fault, line) in [
-        (Fault::TextTooLong, "refused 2 TextTooLong"),
         (Fault::BadToken(place), "refused 3 BadToken 1:5"),
+        (Fault::BadSyntax(place), "refused 5 BadSyntax 1:5"),
         (Fault::LeftOut(place), "refused 6 LeftOut 1:5"),
+        (Fault::TooDeep(place), "refused 7 TooDeep 1:5"),
+        (Fault::DuplicateName(place), "refused 8 DuplicateName 1:5"),
+        (Fault::LoneSignature(place), "refused 9 LoneSignature 1:5"),
+    ] {
+        check_line(&rt, alloc, fault, line)?;
+    }
+    let at = At::Place(place);
+    check_line(&rt, alloc, Fault::BadArity(at), "refused 12 BadArity 1:5")?;
+    let spot = At::Spot(Spot { member: 2, node: 7 });
+    check_line(
+        &rt,
+        alloc,
+        Fault::Impredicative(spot),
+        "refused 13 Impredicative",
+    )
+}
+
+#[test]
+fn prints_faults(rt: HostRuntime) -> Result<(), Fail> {
+    let alloc = rt.alloc();
+    for (fault, line) in [
+        (Fault::TextTooLong, "refused 2 TextTooLong"),
         (Fault::BadName, "refused 29 BadName"),
+        (Fault::StoreFull, "refused 41 StoreFull"),
         (Fault::Damaged(8), "refused 44 Damaged 8"),
         (Fault::InputFault, "refused 45 InputFault"),
         (Fault::Memory, crate::MEMORY_LINE),
         (Fault::Usage, "refused 60 Usage"),
     ] {
-        assert_eq!(rt; fault.line(rt.alloc())?.as_slice(), line.as_bytes());
+        check_line(&rt, alloc, fault, line)?;
     }
     Ok(())
+}
+
+#[test]
+fn prints_what_faults_hold(rt: HostRuntime) -> Result<(), Fail> {
+    let alloc = rt.alloc();
+    let used = Fault::StillUsed(Name::parse(alloc, b"Nat.+")?);
+    check_line(&rt, alloc, used, "refused 25 StillUsed Nat.+")?;
+    let hash = Hash::read_text(ABC.as_bytes()).ok_or("no hash")?;
+    let old = Bytes::from_slice(alloc, b"T1;-n14;")?;
+    let new = Bytes::from_slice(alloc, b"T1;-n23;")?;
+    assert!(rt; old != new);
+    let wanted = format!(in alloc; "refused 32 Collision #{ABC}")?;
+    check_line(
+        &rt,
+        alloc,
+        Fault::Collision(hash, old, new),
+        wanted.as_str(),
+    )
 }
 
 #[test]

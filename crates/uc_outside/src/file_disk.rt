@@ -1,4 +1,5 @@
 //! A disk over a real file. What such a file holds is trusted, and no clause speaks of it.
+ghost use Rattle.std.specs.Prelude.{◌≡◌};
 ghost use Rattle.uc_outside.specs.Count.{HasCause};
 
 use crate::{Disk, Failed};
@@ -15,7 +16,9 @@ pub struct FileDisk<R: Files + Drop> {
 
 impl<R: Files + Drop> FileDisk<R> {
     /// The file of that path. No call is made on it here.
-    pub fn new(files: R, path: &'static str) -> FileDisk<R> {
+    pub fn new(files: R, path: &'static str) -> FileDisk<R>
+        ensures { result.failed ≡ 0 }
+    {
         FileDisk {
             file: LateFile {
                 files,

@@ -1,5 +1,5 @@
 //! Standard input and output. They tell nothing of their content: what a terminal or a pipe holds is trusted.
-ghost use Rattle.std.specs.Prelude.{[]};
+ghost use Rattle.std.specs.Prelude.{◌≡◌, []};
 
 use crate::{Failed, Sink, Source};
 use std::io::{Read, Stdin, Stdout, Write};
@@ -13,7 +13,9 @@ pub struct StdInput {
 
 impl StdInput {
     /// Reads from this stream.
-    pub fn new(stdin: Stdin) -> StdInput {
+    pub fn new(stdin: Stdin) -> StdInput
+        ensures { result.failed ≡ 0 }
+    {
         StdInput { stdin, failed: 0 }
     }
 }
@@ -45,7 +47,9 @@ pub struct StdOutput {
 
 impl StdOutput {
     /// Writes to this stream.
-    pub fn new(stdout: Stdout) -> StdOutput {
+    pub fn new(stdout: Stdout) -> StdOutput
+        ensures { result.failed ≡ 0 }
+    {
         StdOutput { stdout, failed: 0 }
     }
 }

@@ -1,6 +1,6 @@
 -- The types of constructors, built from their ends.
-use Rattle.std.proofs.Common.{◌≡◌, ℕ, zero, suc, ◌-◌, ◌<◌, List, [], ◌∷◌, ◌++◌, length, get_or, take, arith, refl, sym, ap, ◌∙◌}
-use Rattle.uc_tree.specs.Types.{Ty, Tys, variable, arrow, more, tys_of}
+use Rattle.std.proofs.Common.{◌≡◌, ℕ, zero, suc, ◌-◌, ◌<◌, List, [], ◌∷◌, ◌++◌, length, get_or, take, arith, sym, ap, ◌∙◌}
+use Rattle.uc_tree.specs.Types.{Ty, Tys, variable, arrow, tys_of}
 use Rattle.uc_tree.specs.Constructors.{arrows, parameters}
 use Rattle.uc_tree.proofs.Joins.{tys_before, tys_before-push}
 

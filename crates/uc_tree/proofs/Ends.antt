@@ -1,5 +1,5 @@
 -- What a loop over parts has counted at its end.
-use Rattle.std.proofs.Common.{◌≡◌, ℕ, ◌+◌, ◌≤◌, List, [], length, drop, min, max, arith, sym, ap, ◌∙◌}
+use Rattle.std.proofs.Common.{◌≡◌, ℕ, ◌+◌, ◌≤◌, List, [], length, drop, min, max, arith, ap, ◌∙◌}
 use Rattle.std.proofs.lemmas.List.{drop_all}
 
 module _ {A : Type 0} (all : List A → ℕ) (xs : List A) (i n most : ℕ) where

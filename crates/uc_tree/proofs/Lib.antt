@@ -1,9 +1,13 @@
 pub mod Arrows
+pub mod ClosedAgain
+pub mod EachTarget
 pub mod Ends
 pub mod Fields
 pub mod Joins
 pub mod Lists
+pub mod Numbers
 pub mod Refs
 pub mod Replaced
+pub mod ReplacedParts
 pub mod ReplacingLaws
 pub mod Sizes

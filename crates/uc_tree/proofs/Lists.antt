@@ -1,7 +1,7 @@
 -- Two lists that are the same as far as a loop has come, and lists of parts seen as lists.
-use Rattle.std.proofs.Common.{◌≡◌, ℕ, zero, suc, ◌+◌, ◌<◌, ◌≤◌, List, [], ◌∷◌, ◌++◌, Option, Some, None, Vec, length, get_or, take, arith, refl, sym, ap, ◌∙◌, add-one}
+use Rattle.std.proofs.Common.{◌≡◌, ℕ, zero, suc, ◌+◌, ◌<◌, ◌≤◌, List, [], ◌∷◌, Option, Some, None, Vec, length, get_or, take, arith, refl, sym, ap, ◌∙◌, add-one}
 use Rattle.uc_tree.specs.declared.term.Case.{Case}
-use Rattle.uc_tree.specs.Types.{Ty, Tys, tys_of}
+use Rattle.uc_tree.specs.Types.{Ty, tys_of}
 use Rattle.uc_tree.specs.Patterns.{Pattern, patterns_of}
 use Rattle.uc_tree.specs.Terms.{Term, Cases, terms_of}
 use Rattle.uc_tree.specs.TermViews.{case_with, cases_of}
@@ -19,7 +19,8 @@ module _ {A : Type 0} where
   pub same_on : (xs ys : List A) (i : ℕ) (x y : A) → i < length xs → i < length ys → x ≡ get_or xs i x → y ≡ get_or ys i y → x ≡ y → take i xs ≡ take i ys → take (i + 1) xs ≡ take (i + 1) ys
   same_on xs ys i x y h k p q e f = rw add-one (take-suc_same xs ys i x y h k p q e f)
 
-  get_or-in : (xs : List A) (i : ℕ) (d e : A) → i < length xs → get_or xs i d ≡ get_or xs i e
+  -- the default does not matter at a place in a list
+  pub get_or-in : (xs : List A) (i : ℕ) (d e : A) → i < length xs → get_or xs i d ≡ get_or xs i e
   get_or-in [] i d e h = absurd (omega arith)
   get_or-in (x ∷ xs) zero d e h = refl
   get_or-in (x ∷ xs) (suc i) d e h = get_or-in xs i d e (omega arith)

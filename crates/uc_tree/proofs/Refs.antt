@@ -1,15 +1,17 @@
 -- Equal references are the same, and which references are among targets.
-use Rattle.std.proofs.Common.{◌≡◌, ℕ, zero, suc, ◌+◌, ◌<◌, List, [], ◌∷◌, length, get_or, Bool, true, false, arith, rules, refl, sym, ap, ◌∙◌}
+use Rattle.std.proofs.Common.{◌≡◌, ℕ, zero, suc, ◌<◌, List, [], ◌∷◌, length, get_or, Bool, true, false, arith, rules, refl, sym, ap, ◌∙◌}
 use Rattle.std.proofs.lemmas.Bool.{eqb-true}
 use Rattle.std.specs.List.{Contains}
 use Rattle.std.specs.Ordering.{is_eq}
+use Rattle.std.specs.Cmp.{IsEquivalence}
+use Rattle.std.proofs.lemmas.Cmp.{eq_by_cmp_equiv}
 use Rattle.uc_base.specs.declared.reference.Ref.{Ref}
 use Rattle.uc_base.specs.declared.reference.Ref.TheVariants.{Def, Ctor, Builtin}
 use Rattle.uc_base.specs.contracts.reference.RefPartialEq.TheImpl as eq
 use Rattle.uc_base.specs.contracts.reference.RefOrd.TheImpl.Laws as ord
 use Rattle.uc_tree.specs.declared.target.Target.{Target}
 use Rattle.uc_tree.specs.declared.target.Target.TheVariants.{Stored, Own, OwnCtor}
-use Rattle.uc_tree.specs.References.{ref_order, stored_among}
+use Rattle.uc_tree.specs.References.{ref_order, is_same_ref, stored_among}
 
 pub same_refs : (x y : Ref) → (eq.ghosts).eq x y ≡ true → x ≡ y
 same_refs (Def h m) (Def k n) e = search rules
@@ -47,3 +49,13 @@ apart_refs x y h = go (is_eq (ref_order x y)) refl
     go : (b : Bool) → is_eq (ref_order x y) ≡ b → is_eq (ref_order x y) ≡ false
     go false is = is
     go true is = absurd (h (sym (same_refs x y (ord.matches_eq-law x y ∙ is))))
+
+pub same_ref : (x y : Ref) → is_same_ref x y ≡ true → x ≡ y
+same_ref x y e = same_refs x y (ord.matches_eq-law x y ∙ e)
+
+pub is_same_ref-equiv : IsEquivalence is_same_ref
+is_same_ref-equiv = eq_by_cmp_equiv ord.total-law
+
+-- what is asked of two references that are the same has one answer
+pub is_same_ref-ap : {A : Type 0} (f : Ref → A) (x y : Ref) → is_same_ref x y ≡ true → f x ≡ f y
+is_same_ref-ap f x y e = ap f (same_ref x y e)

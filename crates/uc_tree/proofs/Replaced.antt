@@ -1,5 +1,5 @@
 -- Trees with their targets replaced, as a relation, and what it keeps.
-use Rattle.std.proofs.Common.{◌≡◌, ℕ, suc, ◌+◌, ◌<◌, List, [], ◌∷◌, Option, Some, None, refl, subst}
+use Rattle.std.proofs.Common.{◌≡◌, ℕ, List, [], ◌∷◌, Option, Some, None, refl, subst, ap, ◌∙◌}
 use Rattle.uc_tree.specs.declared.literal.Literal.{Literal}
 use Rattle.uc_tree.specs.declared.target.Target.{Target}
 use Rattle.uc_tree.specs.declared.item.Item.{Item}
@@ -10,8 +10,8 @@ use Rattle.uc_tree.specs.Patterns.{Pattern, Patterns}
 use Rattle.uc_tree.specs.Patterns as patterns
 use Rattle.uc_tree.specs.Terms.{Term, Terms, Cases}
 use Rattle.uc_tree.specs.Terms as terms
-use Rattle.uc_tree.specs.Replacing.{◌>>=◌, Replacement, target_under, constructor_under, replaced_ty, replaced_tys, replaced_signature, replaced_pattern, replaced_patterns, replaced_term, replaced_terms, replaced_cases}
-use Rattle.uc_tree.specs.Counts.{node_count, tys_node_count, ty_levels, tys_levels, signature_levels, pattern_levels, patterns_levels, term_levels, terms_levels, cases_levels}
+use Rattle.uc_tree.specs.Replacing.{◌>>=◌, Replacement, target_under, constructor_under, replaced, replaced_definition, replaced_declaration, replaced_fields, replaced_ty, replaced_tys, replaced_signature, replaced_pattern, replaced_patterns, replaced_term, replaced_terms, replaced_cases}
+use Rattle.uc_tree.specs.Counts.{ty_levels, tys_levels, signature_levels, pattern_levels, patterns_levels, term_levels, terms_levels, cases_levels}
 
 pub some_is : {A : Type 0} (x y : A) → ◌≡◌ {A = Option A} (Some x) (Some y) → x ≡ y
 some_is x y e = cc
@@ -220,6 +220,36 @@ mutual
       let p3 = bound (replaced_cases m a3) (λ y3. Some (terms.guarded p0.0 p1.0 p2.0 y3)) u p2.2 in
       subst (λ (v : Cases). ReplacedCases m (terms.guarded a0 a1 a2 a3) v) (some_is (terms.guarded p0.0 p1.0 p2.0 p3.0) u p3.2) (cases_guarded (pattern_from m a0 p0.0 p0.1) (term_from m a1 p1.0 p1.1) (term_from m a2 p2.0 p2.1) (cases_from m a3 p3.0 p3.1))
 
+-- fields and what they became
+pub data ReplacedFields : Replacement → List Tys → List Tys → Type 0 where
+  no_fields : {m : Replacement} → ReplacedFields m [] []
+  more_fields : {m : Replacement} {ts us : Tys} {cs ds : List Tys} → ReplacedTys m ts us → ReplacedFields m cs ds → ReplacedFields m (ts ∷ cs) (us ∷ ds)
+
+-- an item and what it became
+pub data ReplacedItem : Replacement → Item → Item → Type 0 where
+  item_term : {m : Replacement} {s r : Option Ty} {b d : Term} → ReplacedSignature m s r → ReplacedTerm m b d → ReplacedItem m (item.Term (record { signature = s; body = b })) (item.Term (record { signature = r; body = d }))
+  item_kind : {m : Replacement} {tag : Option (List ℕ)} {params : ℕ} {cs ds : List Tys} → ReplacedFields m cs ds → ReplacedItem m (item.Kind (record { tag = tag; params = params; ctors = cs })) (item.Kind (record { tag = tag; params = params; ctors = ds }))
+
+fields_from : (m : Replacement) (cs ds : List Tys) → replaced_fields m cs ≡ Some ds → ReplacedFields m cs ds
+fields_from m [] ds e = subst (λ (v : List Tys). ReplacedFields m [] v) (some_is [] ds e) no_fields
+fields_from m (ts ∷ cs) ds e =
+    let p0 = bound (replaced_tys m ts) (λ y0. replaced_fields m cs >>= λ y1. Some (y0 ∷ y1)) ds e in
+    let p1 = bound (replaced_fields m cs) (λ y1. Some (p0.0 ∷ y1)) ds p0.2 in
+    subst (λ (v : List Tys). ReplacedFields m (ts ∷ cs) v) (some_is (p0.0 ∷ p1.0) ds p1.2) (more_fields (tys_from m ts p0.0 p0.1) (fields_from m cs p1.0 p1.1))
+
+pub item_from : (m : Replacement) (i j : Item) → replaced m i ≡ Some j → ReplacedItem m i j
+item_from m (item.Term d) j e =
+    let p = bound (replaced_definition m d) (λ x. Some (item.Term x)) j e in
+    let q = bound (replaced_signature m d.signature) (λ s. replaced_term m d.body >>= λ b. Some (record { signature = s; body = b })) p.0 p.1 in
+    let r = bound (replaced_term m d.body) (λ b. Some (record { signature = q.0; body = b })) p.0 q.2 in
+    subst (λ (v : Item). ReplacedItem m (item.Term d) v) (ap item.Term (some_is (record { signature = q.0; body = r.0 }) p.0 r.2) ∙ some_is (item.Term p.0) j p.2)
+    (item_term (signature_from m d.signature q.0 q.1) (term_from m d.body r.0 r.1))
+item_from m (item.Kind d) j e =
+    let p = bound (replaced_declaration m d) (λ x. Some (item.Kind x)) j e in
+    let q = bound (replaced_fields m d.ctors) (λ cs. Some (record { tag = d.tag; params = d.params; ctors = cs })) p.0 p.1 in
+    subst (λ (v : Item). ReplacedItem m (item.Kind d) v) (ap item.Kind (some_is (record { tag = d.tag; params = d.params; ctors = q.0 }) p.0 q.2) ∙ some_is (item.Kind p.0) j p.2)
+    (item_kind (fields_from m d.ctors q.0 q.1))
+
 -- levels stay
 mutual
   pub ty-levels : {m : Replacement} {t u : Ty} → ReplacedTy m t u → ty_levels u ≡ ty_levels t
@@ -280,17 +310,3 @@ mutual
   cases-levels cases_no_case = refl
   cases-levels (cases_case p0 p1 p2) = rw (pattern-levels p0, term-levels p1, cases-levels p2) refl
   cases-levels (cases_guarded p0 p1 p2 p3) = rw (pattern-levels p0, term-levels p1, term-levels p2, cases-levels p3) refl
-
--- the count of nodes stays
-mutual
-  pub ty-nodes : {m : Replacement} {t u : Ty} → ReplacedTy m t u → node_count u ≡ node_count t
-  ty-nodes ty_variable = refl
-  ty-nodes (ty_quantified p0) = rw (ty-nodes p0) refl
-  ty-nodes (ty_arrow p0 p1) = rw (ty-nodes p0, ty-nodes p1) refl
-  ty-nodes ty_unit = refl
-  ty-nodes (ty_tuple p0) = rw (tys-nodes p0) refl
-  ty-nodes (ty_applied p0 p1) = rw (tys-nodes p1) refl
-
-  pub tys-nodes : {m : Replacement} {t u : Tys} → ReplacedTys m t u → tys_node_count u ≡ tys_node_count t
-  tys-nodes tys_none = refl
-  tys-nodes (tys_more p0 p1) = rw (ty-nodes p0, tys-nodes p1) refl

@@ -1,6 +1,5 @@
 -- Variables that are bound.
-use Rattle.std.specs.Prelude.{ℕ, zero, suc, ◌+◌, ◌<◌, List, [], ◌∷◌, Option, Some, None}
-use Rattle.uc_tree.specs.declared.definition.Definition.{Definition}
+use Rattle.std.specs.Prelude.{ℕ, suc, ◌+◌, ◌<◌, List, [], ◌∷◌, Option, Some, None}
 use Rattle.uc_tree.specs.declared.item.Item.{Item}
 use Rattle.uc_tree.specs.declared.item.Item.TheVariants as item
 use Rattle.uc_tree.specs.Types.{Ty, Tys}

@@ -1,10 +1,10 @@
 -- What stands for a stored reference.
-use Rattle.std.specs.Prelude.{List, Option, Some, None, unwrap_or}
+use Rattle.std.specs.Prelude.{List, unwrap_or}
 use Rattle.std.specs.Ordering.{is_eq}
 use Rattle.std.specs.Map.{lookup}
 use Rattle.uc_base.specs.declared.reference.Ref.{Ref}
 use Rattle.uc_tree.specs.declared.ref_map.Image.{Image}
-use Rattle.uc_tree.specs.declared.ref_map.Image.TheVariants.{Same, New, Gone}
+use Rattle.uc_tree.specs.declared.ref_map.Image.TheVariants.{Same}
 use Rattle.uc_tree.specs.References.{ref_order}
 
 -- references with their images; all others have the image `Same`

@@ -5,6 +5,7 @@ pub mod Declarations
 pub mod Hints
 pub mod Images
 pub mod Items
+pub mod Laws
 pub mod Literals
 pub mod Lookups
 pub mod Nodes

@@ -1,8 +1,9 @@
 -- What look-ups find.
-use Rattle.std.specs.Prelude.{◌≡◌, ℕ, true, false, List, [], ◌∷◌, ◌++◌, Option, Some, None, Bool, if◌then◌else◌, ◌==◌}
+use Rattle.std.specs.Prelude.{ℕ, true, false, List, [], ◌∷◌, Option, Some, None, Bool, if◌then◌else◌, ◌==◌}
 use Rattle.std.specs.List.{filter}
 use Rattle.std.specs.Ordering.{nat_cmp, is_lt}
 use Rattle.std.specs.Cmp.Lexicographic.{slice_cmp}
+use Rattle.std.specs.declared.cmp.Ordering.{Ordering}
 use Rattle.hex.specs.Hex.{encode_lower}
 use Rattle.uc_base.specs.declared.hash.Hash.{Hash}
 use Rattle.uc_base.specs.declared.reference.Ref.{Ref}
@@ -12,6 +13,10 @@ use Rattle.uc_tree.specs.declared.lookups.Found.TheVariants as found
 -- names with what they stand for, in name order
 abbrev pub Pairs : Type 0
 Pairs = List (List ℕ × Ref)
+
+-- the order of pairs: that of their names
+abbrev pub pair_order : (List ℕ × Ref) → (List ℕ × Ref) → Ordering
+pair_order p q = slice_cmp nat_cmp p.0 q.0
 
 -- the first pair of a name after another, or the first of all
 abbrev pub next_pair : Option (List ℕ) → Pairs → Option (List ℕ × Ref)

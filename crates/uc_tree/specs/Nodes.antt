@@ -1,6 +1,5 @@
 -- The nodes of an item in the order of its canonical text.
 use Rattle.std.specs.Prelude.{ℕ, zero, suc, List, [], ◌∷◌, ◌++◌, Option, Some, None, slice_get}
-use Rattle.uc_tree.specs.declared.definition.Definition.{Definition}
 use Rattle.uc_tree.specs.declared.item.Item.{Item}
 use Rattle.uc_tree.specs.declared.item.Item.TheVariants as item
 use Rattle.uc_tree.specs.Types.{Ty, Tys}

@@ -1,5 +1,7 @@
--- The stored references among targets, and their order.
-use Rattle.std.specs.Prelude.{List, [], ◌∷◌}
+-- The stored references among targets, their order, and the places of references in a list.
+use Rattle.std.specs.Prelude.{ℕ, Bool, List, [], ◌∷◌, Option}
+use Rattle.std.specs.List.{position_from}
+use Rattle.std.specs.Ordering.{is_eq}
 use Rattle.std.specs.declared.cmp.Ordering.{Ordering}
 use Rattle.uc_base.specs.declared.reference.Ref.{Ref}
 use Rattle.uc_base.specs.contracts.reference.RefOrd.TheImpl as ord
@@ -9,6 +11,14 @@ use Rattle.uc_tree.specs.declared.target.Target.TheVariants.{Stored, Own, OwnCto
 -- the order of references: kind, hash, numbers
 abbrev pub ref_order : Ref → Ref → Ordering
 ref_order = (ord.ghosts).cmp
+
+-- whether two references are the same
+abbrev pub is_same_ref : Ref → Ref → Bool
+is_same_ref r s = is_eq (ref_order r s)
+
+-- the place at which a reference first stands in a list
+abbrev pub number_of : Ref → List Ref → Option ℕ
+number_of r refs = position_from (is_same_ref r) 0 refs
 
 -- the stored references among targets
 abbrev pub stored_among : List Target → List Ref

@@ -1,5 +1,5 @@
 -- Trees with their targets replaced.
-use Rattle.std.specs.Prelude.{ℕ, List, [], ◌∷◌, Option, Some, None, option_and_then, slice_get}
+use Rattle.std.specs.Prelude.{ℕ, List, [], ◌∷◌, Option, Some, None, option_and_then, option_map, unwrap_or, slice_get}
 use Rattle.uc_base.specs.declared.reference.Ref.{Ref}
 use Rattle.uc_base.specs.declared.reference.Ref.TheVariants.{Def, Ctor, Builtin}
 use Rattle.uc_tree.specs.declared.target.Target.{Target}
@@ -11,6 +11,7 @@ use Rattle.uc_tree.specs.declared.definition.Definition.{Definition}
 use Rattle.uc_tree.specs.declared.item.Item.{Item}
 use Rattle.uc_tree.specs.declared.item.Item.TheVariants as item
 use Rattle.uc_tree.specs.Images.{Images, image_of}
+use Rattle.uc_tree.specs.References.{number_of}
 use Rattle.uc_tree.specs.Types.{Ty, Tys}
 use Rattle.uc_tree.specs.Types as types
 use Rattle.uc_tree.specs.Patterns.{Pattern, Patterns}
@@ -23,10 +24,11 @@ infixl 10 ◌>>=◌
 abbrev pub ◌>>=◌ : {A B : Type 0} → Option A → (A → Option B) → Option B
 o >>= f = option_and_then f o
 
--- what stands for targets: images for stored references, or targets for the members of the component
+-- what stands for targets: images for stored references, targets for the members of the component, or numbers for the references of its members
 pub data Replacement : Type 0 where
   by_images : Images → Replacement
   by_members : List Target → Replacement
+  by_references : List Ref → Replacement
 
 -- a stored reference by its image
 abbrev pub imaged : Ref → Image → Option Target
@@ -56,9 +58,18 @@ member_under ms (Stored r) = Some (Stored r)
 member_under ms (Own member) = slice_get ms member
 member_under ms (OwnCtor member ctor) = slice_get ms member >>= constructor_of ctor
 
+-- a reference of a list as the member with its number, a constructor of one as that of the member, and all else as it is
+abbrev pub own_under : List Ref → Target → Target
+own_under refs (Stored (Def hash member)) = unwrap_or (option_map (λ number. Own number) (number_of (Def hash member) refs)) (Stored (Def hash member))
+own_under refs (Stored (Ctor hash member ctor)) = unwrap_or (option_map (λ number. OwnCtor number ctor) (number_of (Def hash member) refs)) (Stored (Ctor hash member ctor))
+own_under refs (Stored (Builtin number)) = Stored (Builtin number)
+own_under refs (Own member) = Own member
+own_under refs (OwnCtor member ctor) = OwnCtor member ctor
+
 -- what stands for a target in a type or a term
 abbrev pub target_under : Replacement → Target → Option Target
 target_under (by_members ms) x = member_under ms x
+target_under (by_references refs) x = Some (own_under refs x)
 target_under (by_images images) (Stored r) = imaged r (image_of images r)
 target_under (by_images images) (Own member) = Some (Own member)
 target_under (by_images images) (OwnCtor member ctor) = Some (OwnCtor member ctor)
@@ -66,6 +77,7 @@ target_under (by_images images) (OwnCtor member ctor) = Some (OwnCtor member cto
 -- what stands for a target in a pattern
 abbrev pub constructor_under : Replacement → Target → Option Target
 constructor_under (by_members ms) x = member_under ms x
+constructor_under (by_references refs) x = Some (own_under refs x)
 constructor_under (by_images images) (Stored r) = imaged_constructor r (image_of images r)
 constructor_under (by_images images) (Own member) = Some (Own member)
 constructor_under (by_images images) (OwnCtor member ctor) = Some (OwnCtor member ctor)

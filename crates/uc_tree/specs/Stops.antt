@@ -3,13 +3,14 @@ use Rattle.std.specs.Prelude.{◌≡◌, Option, Some, None, Result, Ok, Err}
 use Rattle.uc_tree.specs.declared.replacing.Stop.{Stop}
 use Rattle.uc_tree.specs.declared.replacing.Stop.TheVariants.{Memory, Gone}
 use Rattle.uc_tree.specs.declared.replacing.Standing.{Standing}
-use Rattle.uc_tree.specs.declared.replacing.Standing.TheVariants.{Images, Members}
-use Rattle.uc_tree.specs.Replacing.{Replacement, by_images, by_members}
+use Rattle.uc_tree.specs.declared.replacing.Standing.TheVariants.{Images, Members, References}
+use Rattle.uc_tree.specs.Replacing.{Replacement, by_images, by_members, by_references}
 
 -- what stands for targets
 abbrev pub replacement_of : Standing → Replacement
 replacement_of (Images images) = by_images images.now
 replacement_of (Members members) = by_members members.now
+replacement_of (References numbering) = by_references numbering.now
 
 -- no tree: memory ran out, or there is none
 abbrev pub Fails : {Y : Type 0} → Stop → Option Y → Type 0

@@ -6,7 +6,6 @@ use Rattle.uc_base.specs.declared.reference.Ref.TheVariants.{Def, Ctor, Builtin}
 use Rattle.uc_tree.specs.declared.target.Target.{Target}
 use Rattle.uc_tree.specs.declared.target.Target.TheVariants.{Stored, Own, OwnCtor}
 use Rattle.uc_tree.specs.declared.term.Case.{Case}
-use Rattle.uc_tree.specs.declared.definition.Definition.{Definition}
 use Rattle.uc_tree.specs.declared.item.Item.{Item}
 use Rattle.uc_tree.specs.declared.item.Item.TheVariants as item
 use Rattle.uc_tree.specs.Types.{Ty, Tys}
@@ -15,7 +14,6 @@ use Rattle.uc_tree.specs.Patterns.{Pattern, Patterns}
 use Rattle.uc_tree.specs.Patterns as patterns
 use Rattle.uc_tree.specs.Terms.{Term, Terms, Cases}
 use Rattle.uc_tree.specs.Terms as terms
-use Rattle.uc_tree.specs.Declarations.{Decl}
 
 abbrev mutual
   -- the targets in a type

@@ -1,5 +1,6 @@
 //! Copies of trees.
 ghost use Rattle.std.specs.Prelude.{◌≡◌, IfOk};
+ghost use Rattle.uc_tree.specs.TermViews.{term_of};
 
 use crate::pattern::{Pattern, PatternNode};
 use crate::term::{Case, Term, TermNode};
@@ -83,80 +84,41 @@ impl Term {
     pub fn copy(&self, alloc: Global) -> Result<Term, AllocError>
         ensures { IfOk result (λ t. t ≡ self.now) }
     {
-        match &self.node {
-            TermNode::Var(n) => Ok(Term::variable(*n)),
-            TermNode::Literal(l) => Ok(Term::literal(l.copy(alloc)?)),
-            TermNode::Unit => Ok(Term::unit()),
-            TermNode::Link(x) => Ok(Term::link(*x)),
-            TermNode::Lambda(a) => {
-                let a = copy_box(alloc, a)?;
-                Ok(Term {
-                    node: TermNode::Lambda(a),
-                })
-            }
-            TermNode::Apply(a, b) => {
-                let (a, b) = copy_two(alloc, a, b)?;
-                Ok(Term {
-                    node: TermNode::Apply(a, b),
-                })
-            }
-            TermNode::Annotated(a, t) => {
-                let a = copy_box(alloc, a)?;
-                let t = t.copy(alloc)?;
-                Ok(Term {
-                    node: TermNode::Annotated(a, t),
-                })
-            }
-            TermNode::Tuple(ts) => {
-                let ts = copy_terms(alloc, ts)?;
-                Ok(Term {
-                    node: TermNode::Tuple(ts),
-                })
-            }
-            TermNode::List(ts) => {
-                let ts = copy_terms(alloc, ts)?;
-                Ok(Term {
-                    node: TermNode::List(ts),
-                })
-            }
-            TermNode::If(a, b, c) => {
-                let (a, b) = copy_two(alloc, a, b)?;
-                let c = copy_box(alloc, c)?;
-                Ok(Term {
-                    node: TermNode::If(a, b, c),
-                })
-            }
-            TermNode::And(a, b) => {
-                let (a, b) = copy_two(alloc, a, b)?;
-                Ok(Term {
-                    node: TermNode::And(a, b),
-                })
-            }
-            TermNode::Or(a, b) => {
-                let (a, b) = copy_two(alloc, a, b)?;
-                Ok(Term {
-                    node: TermNode::Or(a, b),
-                })
-            }
-            TermNode::Let(s, a, b) => {
-                let s = copy_signature(alloc, s)?;
-                let (a, b) = copy_two(alloc, a, b)?;
-                Ok(Term {
-                    node: TermNode::Let(s, a, b),
-                })
-            }
-            TermNode::Match(a, cs) => {
-                let a = copy_box(alloc, a)?;
-                let cs = copy_cases(alloc, cs)?;
-                Ok(Term {
-                    node: TermNode::Match(a, cs),
-                })
-            }
-        }
+        let node = copy_node(alloc, &self.node)?;
+        Ok(Term { node })
     }
 }
 
-/// Recursion goes through boxes, which keeps the frame of `Term::copy` small.
+#[cycle(copy_term)]
+#[tactic(auto, using(crate::proofs::Sizes::parts))]
+fn copy_node(alloc: Global, node: &TermNode) -> Result<TermNode, AllocError>
+    ensures { IfOk result (λ copied. term_of copied ≡ term_of node.now) }
+{
+    match node {
+        TermNode::Var(n) => Ok(TermNode::Var(*n)),
+        TermNode::Literal(l) => Ok(TermNode::Literal(l.copy(alloc)?)),
+        TermNode::Unit => Ok(TermNode::Unit),
+        TermNode::Link(x) => Ok(TermNode::Link(*x)),
+        TermNode::Lambda(a) => Ok(TermNode::Lambda(copy_box(alloc, a)?)),
+        TermNode::Apply(a, b) => Ok(TermNode::Apply(copy_box(alloc, a)?, copy_box(alloc, b)?)),
+        TermNode::Annotated(a, t) => Ok(TermNode::Annotated(copy_box(alloc, a)?, t.copy(alloc)?)),
+        TermNode::Tuple(ts) => Ok(TermNode::Tuple(copy_terms(alloc, ts)?)),
+        TermNode::List(ts) => Ok(TermNode::List(copy_terms(alloc, ts)?)),
+        TermNode::If(a, b, c) => {
+            let a = copy_box(alloc, a)?;
+            Ok(TermNode::If(a, copy_box(alloc, b)?, copy_box(alloc, c)?))
+        }
+        TermNode::And(a, b) => Ok(TermNode::And(copy_box(alloc, a)?, copy_box(alloc, b)?)),
+        TermNode::Or(a, b) => Ok(TermNode::Or(copy_box(alloc, a)?, copy_box(alloc, b)?)),
+        TermNode::Let(s, a, b) => {
+            let s = copy_signature(alloc, s)?;
+            Ok(TermNode::Let(s, copy_box(alloc, a)?, copy_box(alloc, b)?))
+        }
+        TermNode::Match(a, cs) => Ok(TermNode::Match(copy_box(alloc, a)?, copy_cases(alloc, cs)?)),
+    }
+}
+
+/// Recursion goes through boxes, which keeps the frame of `copy_node` small.
 #[cycle(copy_term)]
 #[tactic(auto, using(crate::proofs::Sizes::parts))]
 fn copy_box(alloc: Global, t: &Term) -> Result<Box<Term>, AllocError>
@@ -164,16 +126,6 @@ fn copy_box(alloc: Global, t: &Term) -> Result<Box<Term>, AllocError>
 {
     let t = t.copy(alloc)?;
     Ok(Box::new(alloc, t)?)
-}
-
-#[cycle(copy_term)]
-#[tactic(auto, using(crate::proofs::Sizes::parts))]
-fn copy_two(alloc: Global, t: &Term, u: &Term) -> Result<(Box<Term>, Box<Term>), AllocError>
-    ensures { IfOk result (λ p. (p.0.value ≡ t.now) × (p.1.value ≡ u.now)) }
-{
-    let t = copy_box(alloc, t)?;
-    let u = copy_box(alloc, u)?;
-    Ok((t, u))
 }
 
 #[cycle(copy_term)]

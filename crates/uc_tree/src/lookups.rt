@@ -1,6 +1,7 @@
 //! What a codebase is asked: names, references, arities and types.
 ghost use Rattle.std.specs.Prelude.{◌≡◌, ℕ, List, [], Option, Bool, option_map};
 ghost use Rattle.std.specs.Option.{option_copied};
+ghost use Rattle.std.specs.List.Sorted.{IsStrictlySortedBy};
 ghost use Rattle.std.specs.Map.{lookup};
 ghost use Rattle.std.specs.Cmp.Lexicographic.{pointwise};
 ghost use Rattle.std.specs.Prelude.{nat_eq};
@@ -10,7 +11,8 @@ ghost use Rattle.uc_base.specs.declared.reference.Ref.{Ref as PlainRef};
 ghost use Rattle.uc_base.specs.declared.reference.Ref.TheVariants.{Ctor, Builtin};
 ghost use Rattle.uc_tree.specs.declared.target.Target.{Target as PlainTarget};
 ghost use Rattle.uc_tree.specs.Types.{Ty as PlainTy};
-ghost use Rattle.uc_tree.specs.Lookups.{Pairs, next_pair, found_by_prefix};
+ghost use Rattle.uc_tree.specs.Lookups.{Pairs, pair_order, next_pair, found_by_prefix};
+ghost use Rattle.uc_tree.specs.References.{ref_order};
 
 use crate::target::Target;
 use crate::ty::Ty;
@@ -28,6 +30,8 @@ pub enum Found {
 pub trait Names {
     /// The names of a sort in name order, each once.
     ghost pairs: { Self → PlainSort → Pairs };
+
+    ghost in_order: { (names : Self) (sort : PlainSort) → IsStrictlySortedBy pair_order (pairs names sort) };
 
     /// The hashes of all that is stored, each once.
     ghost hashes: { Self → List PlainHash };
@@ -55,6 +59,9 @@ pub trait Known {
 
     fn refs(&self, of: &Ref) -> &[Ref]
         ensures { result.now ≡ direct self.now of.now };
+
+    /// They stand in reference order, each once.
+    ghost in_order: { (known : Self) (of : PlainRef) → IsStrictlySortedBy ref_order (direct known of) };
 
     /// A constructor has none.
     ghost of_constructor: { (known : Self) (hash : PlainHash) (member ctor : ℕ) → direct known (Ctor hash member ctor) ≡ [] };

@@ -1,18 +1,20 @@
 //! Trees with their targets replaced.
-ghost use Rattle.std.specs.Prelude.{◌≡◌, IfOk, IfErr};
+ghost use Rattle.std.specs.Prelude.{◌≡◌, ◌<◌, ◌^◌, length, Some, IfOk, IfErr};
 ghost use Rattle.uc_base.specs.declared.fault.Fault.TheVariants as faults;
 ghost use Rattle.uc_tree.specs.Types.{tys_of};
 ghost use Rattle.uc_tree.specs.Patterns.{patterns_of};
 ghost use Rattle.uc_tree.specs.Terms.{terms_of};
-ghost use Rattle.uc_tree.specs.TermViews.{case_with, cases_of};
+ghost use Rattle.uc_tree.specs.Terms as terms;
+ghost use Rattle.uc_tree.specs.TermViews.{term_of, case_with, cases_of};
 ghost use Rattle.uc_tree.specs.Declarations.{fields_of};
 ghost use Rattle.uc_tree.specs.Stops.{Gives, replacement_of};
 ghost use Rattle.uc_tree.specs.Replacing as spec;
-ghost use Rattle.uc_tree.specs.Replacing.{replaced, replaced_ty, replaced_tys, replaced_pattern, replaced_patterns, replaced_term, replaced_terms, replaced_cases, replaced_fields, rewritten, by_members};
+ghost use Rattle.uc_tree.specs.Replacing.{replaced, replaced_ty, replaced_tys, replaced_pattern, replaced_patterns, replaced_term, replaced_terms, replaced_cases, replaced_fields, rewritten, by_members, by_references};
 
 use crate::declaration::{Decl, copy_tag};
 use crate::definition::Definition;
 use crate::item::Item;
+use crate::numbering::Numbering;
 use crate::pattern::{Pattern, PatternNode};
 use crate::ref_map::{Image, RefMap};
 use crate::target::Target;
@@ -49,11 +51,13 @@ impl<T: Drop> From<AllocFailed<T>> for Stop {
     }
 }
 
-/// What stands for targets: images for stored references, or targets for the members of the component.
+/// What stands for targets: images for stored references, targets for the members of the component, or
+/// numbers for the references of its members.
 #[derive(Clone, Copy)]
 enum Standing<'a> {
     Images(&'a RefMap),
     Members(&'a [Target]),
+    References(&'a Numbering<'a>),
 }
 
 fn constructor_of(ctor: u32, of: &Target) -> Option<Target>
@@ -78,6 +82,26 @@ fn member_under(members: &[Target], of: &Target) -> Option<Target>
             Some(declaration) => constructor_of(*ctor, declaration),
             None => None,
         },
+    }
+}
+
+fn own_under(numbering: &Numbering, of: &Target) -> Target
+    ensures { result ≡ spec.own_under numbering.now of.now }
+{
+    match of {
+        Target::Stored(Ref::Def(hash, member)) => {
+            match numbering.number_of(&Ref::Def(*hash, *member)) {
+                Some(number) => Target::Own(number),
+                None => *of,
+            }
+        }
+        Target::Stored(Ref::Ctor(hash, member, ctor)) => {
+            match numbering.number_of(&Ref::Def(*hash, *member)) {
+                Some(number) => Target::OwnCtor(number, *ctor),
+                None => *of,
+            }
+        }
+        Target::Stored(Ref::Builtin(_)) | Target::Own(_) | Target::OwnCtor(_, _) => *of,
     }
 }
 
@@ -108,6 +132,7 @@ fn target_under(standing: &Standing, of: &Target) -> Result<Target, Stop>
 {
     let found = match standing {
         Standing::Members(members) => member_under(members, of),
+        Standing::References(numbering) => Some(own_under(numbering, of)),
         Standing::Images(images) => match of {
             Target::Stored(r) => imaged(r, images.get(r)),
             Target::Own(_) | Target::OwnCtor(_, _) => Some(*of),
@@ -121,6 +146,7 @@ fn constructor_under(standing: &Standing, of: &Target) -> Result<Target, Stop>
 {
     let found = match standing {
         Standing::Members(members) => member_under(members, of),
+        Standing::References(numbering) => Some(own_under(numbering, of)),
         Standing::Images(images) => match of {
             Target::Stored(r) => imaged_constructor(r, images.get(r)),
             Target::Own(_) | Target::OwnCtor(_, _) => Some(*of),
@@ -250,81 +276,68 @@ fn replace_patterns(
 fn replace_term(alloc: Global, standing: &Standing, t: &Term) -> Result<Term, Stop>
     ensures { Gives (λ u. u) result (replaced_term (replacement_of standing.now) t.now) }
 {
-    match &t.node {
-        TermNode::Var(n) => Ok(Term::variable(*n)),
-        TermNode::Literal(l) => {
-            let l = l.copy(alloc)?;
-            Ok(Term::literal(l))
-        }
-        TermNode::Unit => Ok(Term::unit()),
-        TermNode::Link(x) => {
-            let x = target_under(standing, x)?;
-            Ok(Term::link(x))
-        }
-        TermNode::Lambda(a) => {
-            let a = replace_box(alloc, standing, a)?;
-            Ok(Term {
-                node: TermNode::Lambda(a),
-            })
-        }
+    let node = replace_node(alloc, standing, &t.node)?;
+    Ok(Term { node })
+}
+
+#[cycle(replace_term)]
+#[tactic(auto, using(crate::proofs::Sizes::parts))]
+fn replace_node(alloc: Global, standing: &Standing, node: &TermNode) -> Result<TermNode, Stop>
+    ensures { Gives (λ n. term_of n) result (replaced_term (replacement_of standing.now) (term_of node.now)) }
+{
+    match node {
+        TermNode::Var(n) => Ok(TermNode::Var(*n)),
+        TermNode::Literal(l) => Ok(TermNode::Literal(l.copy(alloc)?)),
+        TermNode::Unit => Ok(TermNode::Unit),
+        TermNode::Link(x) => Ok(TermNode::Link(target_under(standing, x)?)),
+        TermNode::Lambda(a) => Ok(TermNode::Lambda(replace_box(alloc, standing, a)?)),
         TermNode::Apply(a, b) => {
             let (a, b) = replace_two(alloc, standing, a, b)?;
-            Ok(Term {
-                node: TermNode::Apply(a, b),
-            })
+            Ok(TermNode::Apply(a, b))
         }
         TermNode::Annotated(a, ty) => {
             let a = replace_box(alloc, standing, a)?;
-            let ty = replace_type(alloc, standing, ty)?;
-            Ok(Term {
-                node: TermNode::Annotated(a, ty),
-            })
+            Ok(TermNode::Annotated(a, replace_type(alloc, standing, ty)?))
         }
-        TermNode::Tuple(ts) => {
-            let ts = replace_terms(alloc, standing, ts)?;
-            Ok(Term::tuple(ts))
-        }
-        TermNode::List(ts) => {
-            let ts = replace_terms(alloc, standing, ts)?;
-            Ok(Term::list(ts))
-        }
+        TermNode::Tuple(ts) => Ok(TermNode::Tuple(replace_terms(alloc, standing, ts)?)),
+        TermNode::List(ts) => Ok(TermNode::List(replace_terms(alloc, standing, ts)?)),
         TermNode::If(a, b, c) => {
             let (a, b) = replace_two(alloc, standing, a, b)?;
-            let c = replace_box(alloc, standing, c)?;
-            Ok(Term {
-                node: TermNode::If(a, b, c),
-            })
+            Ok(TermNode::If(a, b, replace_box(alloc, standing, c)?))
         }
         TermNode::And(a, b) => {
             let (a, b) = replace_two(alloc, standing, a, b)?;
-            Ok(Term {
-                node: TermNode::And(a, b),
-            })
+            Ok(TermNode::And(a, b))
         }
         TermNode::Or(a, b) => {
             let (a, b) = replace_two(alloc, standing, a, b)?;
-            Ok(Term {
-                node: TermNode::Or(a, b),
-            })
+            Ok(TermNode::Or(a, b))
         }
-        TermNode::Let(signature, a, b) => {
-            let signature = replace_signature(alloc, standing, signature)?;
-            let (a, b) = replace_two(alloc, standing, a, b)?;
-            Ok(Term {
-                node: TermNode::Let(signature, a, b),
-            })
-        }
+        TermNode::Let(signature, a, b) => replace_let(alloc, standing, signature, a, b),
         TermNode::Match(a, cs) => {
             let a = replace_box(alloc, standing, a)?;
-            let cs = replace_cases(alloc, standing, cs)?;
-            Ok(Term {
-                node: TermNode::Match(a, cs),
-            })
+            Ok(TermNode::Match(a, replace_cases(alloc, standing, cs)?))
         }
     }
 }
 
-/// Recursion goes through boxes, which keeps the frame of `replace_term` small.
+#[cycle(replace_term)]
+#[tactic(auto, using(crate::proofs::Sizes::parts))]
+fn replace_let(
+    alloc: Global,
+    standing: &Standing,
+    signature: &Option<Ty>,
+    t: &Term,
+    u: &Term,
+) -> Result<TermNode, Stop>
+    ensures { Gives (λ n. term_of n) result (replaced_term (replacement_of standing.now) (terms.binding signature.now t.now u.now)) }
+{
+    let signature = replace_signature(alloc, standing, signature)?;
+    let (t, u) = replace_two(alloc, standing, t, u)?;
+    Ok(TermNode::Let(signature, t, u))
+}
+
+/// Recursion goes through boxes, which keeps the frame of `replace_node` small.
 #[cycle(replace_term)]
 #[tactic(auto, using(crate::proofs::Sizes::parts))]
 fn replace_box(alloc: Global, standing: &Standing, t: &Term) -> Result<Box<Term>, Stop>
@@ -486,4 +499,17 @@ pub fn with_members(alloc: Global, item: &Item, members: &[Target]) -> Result<Op
     ensures err { IfErr result (λ fault. fault ≡ faults.Memory) }
 {
     replace(alloc, &Standing::Members(members), item)
+}
+
+/// The item with the references of its component's members as members again: a reference that stands in a
+/// list becomes the member with the number of its first place there, and a constructor of one that of the
+/// member.
+pub fn with_own(alloc: Global, item: &Item, own: &[Ref]) -> Result<Item, Fault>
+    requires { length own.now < 2 ^ 32 }
+    ensures item { IfOk result (λ found. replaced (by_references own.now) item.now ≡ Some found) }
+    ensures err { IfErr result (λ fault. fault ≡ faults.Memory) }
+{
+    let numbering = Numbering::new(alloc, own)?;
+    let found = replace(alloc, &Standing::References(&numbering), item)?;
+    Ok(found.unwrap())
 }

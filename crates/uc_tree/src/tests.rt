@@ -8,7 +8,7 @@ use crate::literal::Literal;
 use crate::pattern::Pattern;
 use crate::ref_map::{Image, RefMap};
 use crate::references::refs_of;
-use crate::replacing::{rewrite, with_members};
+use crate::replacing::{rewrite, with_members, with_own};
 use crate::target::Target;
 use crate::targets::targets_of;
 use crate::term::{Case, Term};
@@ -48,18 +48,24 @@ fn nested(alloc: Global, levels: u32, link: Ref) -> Result<Term, AllocError> {
 }
 
 /// `match 1 with C 1 | true -> f`, with a type round it.
-fn matched(alloc: Global, head: Ref, link: Ref) -> Result<Item, Fail> {
+fn matching(alloc: Global, head: Target, link: Target, of: Target) -> Result<Item, Fail> {
     let mut fields = Vec::new(alloc);
     fields.push(Pattern::literal(Literal::Nat(1)))?;
     let mut cases = Vec::new(alloc);
     cases.push(Case {
-        pattern: Pattern::constructor(Target::Stored(head), fields),
+        pattern: Pattern::constructor(head, fields),
         guard: Some(Term::literal(Literal::Boolean(true))),
-        body: Term::link(Target::Stored(link)),
+        body: Term::link(link),
     })?;
     let body = Term::matching(alloc, Term::literal(Literal::Nat(1)), cases)?;
-    let nat = Ty::data(Target::Stored(NAT), Vec::new(alloc));
-    Ok(definition(Term::annotated(alloc, body, nat)?))
+    let ty = Ty::data(of, Vec::new(alloc));
+    Ok(definition(Term::annotated(alloc, body, ty)?))
+}
+
+/// The same with stored references, and the type `Nat`.
+fn matched(alloc: Global, head: Ref, link: Ref) -> Result<Item, Fail> {
+    let nat = Target::Stored(NAT);
+    matching(alloc, Target::Stored(head), Target::Stored(link), nat)
 }
 
 #[test]
@@ -100,6 +106,25 @@ fn rewrites_by_images(rt: HostRuntime) -> Result<(), Fail> {
         map.set(of, image)?;
         assert!(rt; rewrite(alloc, &item, &map)? == expected);
     }
+    Ok(())
+}
+
+#[test]
+fn opens_and_closes_a_component(rt: HostRuntime) -> Result<(), Fail> {
+    let alloc = rt.alloc();
+    let link = stored(7, 0);
+    let kind = stored(7, 1);
+    let [open_link, open_kind] = [Target::Stored(link), Target::Stored(kind)];
+    let head = Target::Stored(Ref::Ctor(Hash([7; 64]), 1, 2));
+    let opened = matching(alloc, head, open_link, open_kind)?;
+    let closed = matching(alloc, Target::OwnCtor(1, 2), Target::Own(0), Target::Own(1))?;
+    let members = [open_link, open_kind];
+    assert!(rt; with_members(alloc, &closed, &members)? == Some(opened.copy(alloc)?));
+    assert!(rt; with_own(alloc, &opened, &[link, kind])? == closed);
+    // The first place counts, and other references stay.
+    let twice = [stored(8, 0), kind, kind];
+    let kind_closed = matching(alloc, Target::OwnCtor(1, 2), open_link, Target::Own(1))?;
+    assert!(rt; with_own(alloc, &opened, &twice)? == kind_closed);
     Ok(())
 }
 

@@ -27,9 +27,10 @@ fn read_piece<I: Source>(input: &mut I, text: &mut Vec<u8>) -> Result<bool, Faul
 {
     let mut piece = [0; PIECE];
     let room = PIECE.min(TEXT_LIMIT + 1 - text.len());
-    let size = input
-        .read(&mut piece[..room])
-        .map_err(|_| Fault::InputFault)?;
+    let size = match input.read(&mut piece[..room]) {
+        Ok(size) => size,
+        Err(_) => return Err(Fault::InputFault),
+    };
     text.extend_from_slice(&piece[..size])?;
     Ok(size > 0)
 }

@@ -1,17 +1,17 @@
 use Rattle.std.proofs.Common.{◌≡◌, ◌+◌, ◌*◌, take}
 use Rattle.uc_tree.specs.Terms.{term_size, terms_size, cases_size, terms_of}
-use Rattle.uc_tree.specs.TermViews.{cases_of}
+use Rattle.uc_tree.specs.TermViews.{cases_of, term_of}
 use Rattle.uc_tree.proofs.Sizes.{guard_size, case_size}
 use Rattle.uc_tree.proofs.+copy_term.Given as goal
 
 abbrev pub decreases-term::Term::copy : goal.decreases-term::Term::copy
-decreases-term::Term::copy l = 3 * term_size l.self.now
+decreases-term::Term::copy l = 3 * term_size l.self.now + 1
+
+abbrev pub decreases-copying::copy_node : goal.decreases-copying::copy_node
+decreases-copying::copy_node l = 3 * term_size (term_of l.node.now)
 
 abbrev pub decreases-copying::copy_box : goal.decreases-copying::copy_box
-decreases-copying::copy_box l = 3 * term_size l.t.now + 1
-
-abbrev pub decreases-copying::copy_two : goal.decreases-copying::copy_two
-decreases-copying::copy_two l = 3 * (term_size l.t.now + term_size l.u.now) + 2
+decreases-copying::copy_box l = 3 * term_size l.t.now + 2
 
 abbrev pub decreases-copying::copy_terms : goal.decreases-copying::copy_terms
 decreases-copying::copy_terms l = 3 * terms_size (terms_of l.terms.now)
