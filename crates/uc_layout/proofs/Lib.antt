@@ -2,8 +2,10 @@ pub mod Cut
 pub mod Judged
 pub mod Longest
 pub mod Marked
+pub mod Regions
 pub mod Rests
 pub mod Scanning
 pub mod Slices
 pub mod Steps
+pub mod Unmarked
 pub mod Whole

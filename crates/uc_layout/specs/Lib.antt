@@ -6,3 +6,4 @@ pub mod Scan
 pub mod Start
 pub mod Text
 pub mod Tokens
+pub mod Written

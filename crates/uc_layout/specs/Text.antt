@@ -1,5 +1,6 @@
 -- The layout of a whole text, and the first fault of a text that has none.
-use Rattle.std.specs.Prelude.{◌≡◌, ℕ, ◌<◌, ◌≤◌, ◌==◌, ◌||◌, not, List, [], ◌∷◌, ◌++◌, length, bytes_eq, codes, IsUtf8, if◌then◌else◌}
+use Rattle.std.specs.Prelude.{◌≡◌, ℕ, ◌<◌, ◌≤◌, ◌==◌, ◌||◌, not, Bool, true, false, List, [], ◌∷◌, ◌++◌, length, bytes_eq, codes, IsUtf8, if◌then◌else◌}
+use Rattle.std.specs.List.{filter}
 use Rattle.uc_base.specs.declared.place.Place.{Place}
 use Rattle.uc_base.specs.declared.fault.Fault.{Fault}
 use Rattle.uc_base.specs.declared.fault.Fault.TheVariants.{TextTooLong, NotUtf8, BadToken, LeftOut}
@@ -110,3 +111,18 @@ pub data AreSlices : List ℕ → List Seen → Type 0 where
 -- Each token's text is a slice of the source, in order.
 abbrev pub TokensAreSlices : Type 0
 TokensAreSlices = (text : List ℕ) (blocks : List Seen) → Lays text blocks → AreSlices text blocks
+
+-- whether a kind is none of the three marks
+abbrev pub is_word : Kind → Bool
+is_word kind.Opens = false
+is_word kind.Closes = false
+is_word kind.Item = false
+is_word _ = true
+
+-- whether a token is no mark
+abbrev pub is_no_mark : Seen → Bool
+is_no_mark t = is_word t.kind
+
+-- The tokens of a layout that are no marks are the tokens of the text, all of them.
+abbrev pub TokensAreKept : Type 0
+TokensAreKept = (text : List ℕ) (blocks tokens : List Seen) (end : Place) → Lays text blocks → IsTokenized text tokens (ended end) → filter is_no_mark blocks ≡ tokens

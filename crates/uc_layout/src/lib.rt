@@ -6,6 +6,7 @@ mod blocks;
 mod judge;
 mod lay;
 mod piece;
+mod plain;
 mod region;
 mod role;
 mod scan;
@@ -17,5 +18,5 @@ mod text;
 mod token;
 
 pub use blocks::Blocks;
-pub use text::{TEXT_LIMIT, layout_law, lex};
+pub use text::{TEXT_LIMIT, layout_law, layout_of, lex};
 pub use token::{Kind, Token};

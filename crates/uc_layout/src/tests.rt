@@ -1,6 +1,6 @@
 //! Texts with their tokens, marks, places and faults.
 
-use crate::{Blocks, Kind, TEXT_LIMIT, lex};
+use crate::{Blocks, Kind, TEXT_LIMIT, layout_of, lex};
 use std::alloc::Global;
 use std::process::Abort;
 use std::test::Fail;
@@ -271,6 +271,12 @@ fn marks_blocks_and_items(rt: HostRuntime) -> Result<(), Fail> {
         ),
         ("x = 1\n---\ny = 2", " ; x = { ; 1 }"),
     ] {
+        let plain = layout_of(rt.alloc(), text.as_bytes())?;
+        assert_eq!(rt;
+            shown(rt.alloc(), &plain)?.as_slice(),
+            wanted.as_bytes(),
+            "{text} plainly"
+        );
         let blocks = lex(rt.alloc(), text.as_bytes())?;
         assert_eq!(rt;
             shown(rt.alloc(), &blocks)?.as_slice(),
@@ -354,6 +360,7 @@ notes that are never read
 #[test]
 fn lays_out_shopping_lists(rt: HostRuntime) -> Result<(), Fail> {
     let blocks = lex(rt.alloc(), SHOPPING_LISTS.as_bytes())?;
+    let plain = layout_of(rt.alloc(), SHOPPING_LISTS.as_bytes())?;
     let mut wanted = String::new(rt.alloc());
     for item in [
         "use Nat + ==",
@@ -373,6 +380,7 @@ fn lays_out_shopping_lists(rt: HostRuntime) -> Result<(), Fail> {
         wanted.push_str(item)?;
     }
     assert_eq!(rt; shown(rt.alloc(), &blocks)?.as_slice(), wanted.as_bytes());
+    assert_eq!(rt; shown(rt.alloc(), &plain)?.as_slice(), wanted.as_bytes());
     Ok(())
 }
 

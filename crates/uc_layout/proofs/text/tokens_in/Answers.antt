@@ -2,7 +2,7 @@ use Rattle.std.proofs.Common.{inr, IsTrue, false, refl}
 use Rattle.std.proofs.lemmas.Result.{err_from_is_err_and}
 use Rattle.uc_layout.specs.Text.{too_long, not_utf8}
 use Rattle.uc_layout.proofs.Whole.{scan_fault}
-use Rattle.uc_layout.proofs.text.lex.Goals as goal
+use Rattle.uc_layout.proofs.text.tokens_in.Goals as goal
 
 pub returns-then-text-gt-TEXT_LIMIT-clause-fault : goal.returns-then-text-gt-TEXT_LIMIT-clause-fault
 returns-then-text-gt-TEXT_LIMIT-clause-fault c = inr (too_long c.if-text-gt-TEXT_LIMIT.true)
