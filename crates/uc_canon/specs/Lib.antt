@@ -1,2 +1,15 @@
-pub mod Components
+pub mod Bounds
+pub mod Canonical
+pub mod Laws
+pub mod Members
+pub mod Numbering
+pub mod NumberingLaws
+pub mod Opening
+pub mod Reading
+pub mod ReadingMembers
+pub mod ReadingPatterns
+pub mod ReadingTerms
+pub mod ReadingTypes
+pub mod Scopes
 pub mod Spelling
+pub mod Starts

@@ -13,11 +13,11 @@ fn builtin(number: u16) -> Target {
     Target::Stored(Ref::Builtin(number))
 }
 
-fn named(alloc: Global, number: u16) -> Ty {
+pub(crate) fn named(alloc: Global, number: u16) -> Ty {
     Ty::data(builtin(number), Vec::new(alloc))
 }
 
-fn nat(number: u64) -> Term {
+pub(crate) fn nat(number: u64) -> Term {
     Term::literal(Literal::Nat(number))
 }
 
@@ -28,7 +28,7 @@ fn infix(alloc: Global, number: u16, left: Term, right: Term) -> Result<Term, Al
 }
 
 /// `n -> if n Nat.== 0 then LITERAL else OTHER (Nat.drop n 1)`
-fn parity(alloc: Global, at_zero: bool, other: u32) -> Result<Definition, AllocError> {
+pub(crate) fn parity(alloc: Global, at_zero: bool, other: u32) -> Result<Definition, AllocError> {
     let signature = Ty::arrow(alloc, named(alloc, 0), named(alloc, 2))?;
     let test = infix(alloc, 22, Term::variable(0), nat(0))?;
     let rest = infix(alloc, 20, Term::variable(0), nat(1))?;

@@ -2,7 +2,7 @@
 ghost use Rattle.std.specs.Prelude.{◌≡◌, ◌++◌, OnOk, IfOk, IfErr};
 ghost use Rattle.uc_base.specs.declared.fault.Fault.TheVariants.{Memory};
 ghost use Rattle.uc_tree.specs.Declarations.{fields_of};
-ghost use Rattle.uc_canon.specs.Components.{component_text};
+ghost use Rattle.uc_canon.specs.Members.{members_of, text_of};
 ghost use Rattle.uc_canon.specs.Spelling.{definition_text, definitions_text, tag_text, counted_constructors, declaration_text, declarations_text};
 
 use crate::component::Component;
@@ -13,7 +13,7 @@ use std::alloc::{AllocError, Global};
 use uc_base::{Bytes, Fault};
 use uc_tree::{Decl, Definition, Ty};
 
-fn write_definition(definition: &Definition, out: &mut Vec<u8>) -> Result<(), AllocError>
+pub(crate) fn write_definition(definition: &Definition, out: &mut Vec<u8>) -> Result<(), AllocError>
     ensures { OnOk result (out.new.items ≡ out.old.items ++ definition_text definition.now) }
 {
     write_signature(&definition.signature, out)?;
@@ -54,7 +54,7 @@ fn write_constructors(ctors: &[Vec<Ty>], out: &mut Vec<u8>) -> Result<(), AllocE
     Ok(())
 }
 
-fn write_declaration(declaration: &Decl, out: &mut Vec<u8>) -> Result<(), AllocError>
+pub(crate) fn write_declaration(declaration: &Decl, out: &mut Vec<u8>) -> Result<(), AllocError>
     ensures { OnOk result (out.new.items ≡ out.old.items ++ declaration_text declaration.now) }
 {
     write_tag(&declaration.tag, out)?;
@@ -74,7 +74,7 @@ fn write_declarations(members: &[Decl], out: &mut Vec<u8>) -> Result<(), AllocEr
 /// The canonical text of a component, with its members in the given order. Each target has to be of a kind that has
 /// a text at its place; another leaves nothing there.
 pub fn write_component(alloc: Global, of: &Component) -> Result<Bytes, Fault>
-    ensures text { IfOk result (λ text. text ≡ component_text of.now) }
+    ensures text { IfOk result (λ text. text ≡ text_of (members_of of.now)) }
     ensures err { IfErr result (λ fault. fault ≡ Memory) }
 {
     let mut out = Vec::new(alloc);

@@ -1,10 +1,9 @@
-//! Numbers, texts, hashes and literals as canonical text.
+//! Numbers, texts and literals as canonical text.
 ghost use Rattle.std.specs.Prelude.{◌≡◌, ◌++◌, OnOk};
-ghost use Rattle.hex.specs.Hex.{encode_lower};
 ghost use Rattle.uc_canon.specs.Spelling.{number_text, bytes_text, literal_text};
 
 use std::alloc::AllocError;
-use uc_base::{HASH_TEXT_LEN, Hash, write_decimal};
+use uc_base::write_decimal;
 use uc_tree::Literal;
 
 #[tactic(auto, unfolding(crate::specs::Spelling::number_text))]
@@ -21,14 +20,6 @@ pub(crate) fn write_bytes(bytes: &[u8], out: &mut Vec<u8>) -> Result<(), AllocEr
 {
     write_number(bytes.len() as u64, out)?;
     out.extend_from_slice(bytes)
-}
-
-pub(crate) fn write_hash(hash: &Hash, out: &mut Vec<u8>) -> Result<(), AllocError>
-    ensures { OnOk result (out.new.items ≡ out.old.items ++ encode_lower hash.now.0) }
-{
-    let mut digits = [0; HASH_TEXT_LEN];
-    hash.write_text(&mut digits);
-    out.extend_from_slice(&digits)
 }
 
 pub(crate) fn write_literal(literal: &Literal, out: &mut Vec<u8>) -> Result<(), AllocError>

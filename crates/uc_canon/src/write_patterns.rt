@@ -3,7 +3,7 @@ ghost use Rattle.std.specs.Prelude.{◌≡◌, ◌++◌, OnOk};
 ghost use Rattle.uc_tree.specs.Patterns.{patterns_of};
 ghost use Rattle.uc_canon.specs.Spelling.{pattern_target_text, pattern_text, counted_patterns};
 
-use crate::write_basics::{write_hash, write_literal, write_number};
+use crate::write_basics::{write_literal, write_number};
 use std::alloc::AllocError;
 use uc_base::Ref;
 use uc_tree::{Pattern, PatternNode, Target};
@@ -13,7 +13,7 @@ fn write_pattern_target(target: &Target, out: &mut Vec<u8>) -> Result<(), AllocE
 {
     match target {
         Target::Stored(Ref::Ctor(hash, n, ctor)) => {
-            write_hash(hash, out)?;
+            hash.append_text(out)?;
             write_number(u64::from(*n), out)?;
             write_number(u64::from(*ctor), out)
         }

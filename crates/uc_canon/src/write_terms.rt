@@ -4,7 +4,7 @@ ghost use Rattle.uc_tree.specs.Terms.{terms_of};
 ghost use Rattle.uc_tree.specs.TermViews.{cases_of};
 ghost use Rattle.uc_canon.specs.Spelling.{link_text, term_text, counted_terms, counted_cases, case_text};
 
-use crate::write_basics::{write_hash, write_literal, write_number};
+use crate::write_basics::{write_literal, write_number};
 use crate::write_patterns::write_pattern;
 use crate::write_types::{write_signature, write_type};
 use std::alloc::AllocError;
@@ -23,12 +23,12 @@ fn write_link(target: &Target, out: &mut Vec<u8>) -> Result<(), AllocError>
         Target::Stored(Ref::Def(hash, n)) => {
             out.push(b'r')?;
             out.push(b'h')?;
-            write_hash(hash, out)?;
+            hash.append_text(out)?;
             write_number(u64::from(*n), out)
         }
         Target::Stored(Ref::Ctor(hash, n, ctor)) => {
             out.push(b'k')?;
-            write_hash(hash, out)?;
+            hash.append_text(out)?;
             write_number(u64::from(*n), out)?;
             write_number(u64::from(*ctor), out)
         }

@@ -3,7 +3,7 @@ ghost use Rattle.std.specs.Prelude.{◌≡◌, ◌++◌, OnOk};
 ghost use Rattle.uc_tree.specs.Types.{tys_of};
 ghost use Rattle.uc_canon.specs.Spelling.{type_target_text, type_text, counted_types, signature_text};
 
-use crate::write_basics::{write_hash, write_number};
+use crate::write_basics::write_number;
 use std::alloc::AllocError;
 use uc_base::Ref;
 use uc_tree::{Target, Ty, TyNode};
@@ -18,7 +18,7 @@ fn write_type_target(target: &Target, out: &mut Vec<u8>) -> Result<(), AllocErro
         }
         Target::Stored(Ref::Def(hash, n)) => {
             out.push(b'h')?;
-            write_hash(hash, out)?;
+            hash.append_text(out)?;
             write_number(u64::from(*n), out)
         }
         Target::Own(n) => {

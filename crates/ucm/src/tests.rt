@@ -4,8 +4,9 @@ use crate::run;
 use std::alloc::Global;
 use std::process::Abort;
 use std::test::Fail;
-use uc_base::Bytes;
-use uc_outside::{MemDisk, MemSink, MemSource};
+use uc_base::{Bytes, Ref};
+use uc_canon::{read_component, write_component};
+use uc_outside::{Digester, MemDisk, MemSink, MemSource, Sha512Digester};
 
 /// What `x = 5` answers, with the reference by coreutils' sha512sum of `T1;-n5;`.
 const ADDED: &str =
@@ -139,4 +140,34 @@ fn greatest_number(rt: HostRuntime) -> Result<(), Fail> {
     let added =
         "added term most.of_all #d4d8a7c4d48260627d0fefe5282f56158686b70ed5b4d7cff639b23f8ee61dc222f44966e6601641e291964535384e676d9f933ccfb04570555f328b1604e506\n";
     check(&rt, rt.alloc(), &["add"], text, (64, &[], &[]), (0, added))
+}
+
+/// The canonical texts of two functions that call each other and of two members that are each other, with SHA-512 of
+/// each by coreutils' sha512sum.
+const CYCLES: [(&str, &str); 2] = [
+    (
+        "T2;:atb0;0;tb2;0;lfaarb22;v0;n0;yam1;aarb20;v0;n1;:atb0;0;tb2;0;lfaarb22;v0;n0;zam0;aarb20;v0;n1;",
+        "fae5a9da8fa698c96cbf6c5f3a5b97c41106de670b43a347ac3aef1cb0f422599adc3d104f4fc0e7bc65a1695e8c04576b55ebcf2648b96791d25b829a4a8e02",
+    ),
+    (
+        "T2;:tb0;0;m1;:tb0;0;m0;",
+        "57907793d4f8b9fb1a2afb477d1b27ac8eb3e3f65a8c948a19ee903f995b0e68ed3fdf686725f1b386361c3a2499d69d500dac04461df76c6628c770b2762ec0",
+    ),
+];
+
+#[test]
+fn refers_to_members_of_cycles(rt: HostRuntime) -> Result<(), Fail> {
+    let alloc = rt.alloc();
+    for (canonical, digits) in CYCLES {
+        let component = read_component(alloc, canonical.as_bytes())?.ok_or("no component")?;
+        let text = write_component(alloc, &component)?;
+        let hash = Sha512Digester.digest(text.as_slice());
+        for (member, tail) in [(0, ""), (1, ".1")] {
+            let mut printed = Vec::new(alloc);
+            Ref::Def(hash, member).write_text(&mut printed)?;
+            let wanted = format!(in alloc; "#{digits}{tail}")?;
+            assert_eq!(rt; printed.as_slice(), wanted.as_bytes());
+        }
+    }
+    Ok(())
 }

@@ -1,0 +1,6 @@
+use Rattle.std.proofs.Common.{◌≡◌, map, take}
+use Rattle.uc_tree.specs.declared.item.Item.TheVariants.{Kind}
+use Rattle.uc_canon.proofs.members.declaration_items.Given as goal
+
+abbrev pub invariant-loop-member : goal.invariant-loop-member
+invariant-loop-member l = l.items.items ≡ map Kind (take l.member-index l.members)
