@@ -1,0 +1,11 @@
+pub mod Agreeing
+pub mod NameOrder
+pub mod Searched
+pub mod PairEdits
+pub mod Prefixes
+pub mod Preparing
+pub mod PutInOrder
+pub mod BranchEdits
+pub mod Least
+pub mod RefSets
+pub mod Renaming

@@ -1,0 +1,13 @@
+pub mod Aliases
+pub mod Branches
+pub mod Changes
+pub mod Commits
+pub mod Deleting
+pub mod Heads
+pub mod Losses
+pub mod Moving
+pub mod Pairs
+pub mod Places
+pub mod Reaches
+pub mod Todo
+pub mod Uses
