@@ -1,0 +1,11 @@
+pub mod Alone
+pub mod Boxes
+pub mod DirectRefs
+pub mod Drafting
+pub mod Growing
+pub mod HashOrder
+pub mod Making
+pub mod MemberSteps
+pub mod Prefixes
+pub mod Searching
+pub mod Tables

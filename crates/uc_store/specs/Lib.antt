@@ -1,0 +1,16 @@
+pub mod Binders
+pub mod Builtins
+pub mod Checked
+pub mod Direct
+pub mod Drafts
+pub mod Entries
+pub mod Growth
+pub mod Hashes
+pub mod Kept
+pub mod Laws
+pub mod Members
+pub mod Places
+pub mod Prepared
+pub mod Sorts
+pub mod Storable
+pub mod Table
