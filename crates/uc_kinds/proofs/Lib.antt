@@ -1,0 +1,6 @@
+pub mod Clean
+pub mod Faultless
+pub mod Insides
+pub mod Loops
+pub mod NodeCounts
+pub mod Walking

@@ -1,0 +1,6 @@
+pub mod Faults
+pub mod Flaws
+pub mod Laws
+pub mod Monotypes
+pub mod Walks
+pub mod WellFormed
