@@ -1,7 +1,7 @@
 -- The table of builtins: types from 0 on, terms from 16 on.
-use Rattle.std.specs.Prelude.{ℕ, ◌+◌, ◌-◌, List, map, slice_get, nat_lt, Option, Some, None, if◌then◌else◌}
+use Rattle.std.specs.Prelude.{ℕ, ◌+◌, ◌-◌, List, map, slice_get, nat_lt, Option, if◌then◌else◌}
 use Rattle.std.specs.List.{position_from}
-use Rattle.std.specs.Option.{option_map}
+use Rattle.std.specs.Option.{option_map, option_or}
 use Rattle.std.specs.Str.{bytes_eq}
 use Rattle.uc_base.specs.declared.builtin.TheConstants.{BUILTIN_TYPES, BUILTIN_TERMS}
 
@@ -17,14 +17,9 @@ builtin_terms = map (λ name. name.now) BUILTIN_TERMS
 abbrev pub place_in : List (List ℕ) → List ℕ → Option ℕ
 place_in names name = position_from (bytes_eq name) 0 names
 
--- the first, or else the second
-abbrev pub or_else : Option ℕ → Option ℕ → Option ℕ
-or_else (Some x) other = Some x
-or_else None other = other
-
 -- the number of the builtin type or term of a name
 abbrev pub builtin_number : List ℕ → Option ℕ
-builtin_number name = or_else (place_in builtin_types name) (option_map (λ i. i + 16) (place_in builtin_terms name))
+builtin_number name = option_or (place_in builtin_types name) (option_map (λ i. i + 16) (place_in builtin_terms name))
 
 -- the name that the table has at a number
 abbrev pub builtin_name : ℕ → Option (List ℕ)

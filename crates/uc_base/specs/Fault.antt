@@ -1,12 +1,12 @@
 -- The table of faults, and the line of each.
-use Rattle.std.specs.Prelude.{ℕ, List, [], ◌∷◌, ◌++◌, codes}
+use Rattle.std.specs.Prelude.{ℕ, List, [], ◌∷◌, ◌++◌, codes, take}
 use Rattle.std.specs.Fmt.{decimal}
 use Rattle.hex.specs.Hex.{encode_lower}
 use Rattle.uc_base.specs.Place.{place_text}
 use Rattle.uc_base.specs.declared.place.At.{At}
 use Rattle.uc_base.specs.declared.place.At.TheVariants.{Nowhere, Spot, Place}
 use Rattle.uc_base.specs.declared.fault.Fault.{Fault}
-use Rattle.uc_base.specs.declared.fault.Fault.TheVariants.{NotUtf8, TextTooLong, BadToken, NotBuilt, BadSyntax, LeftOut, TooDeep, DuplicateName, LoneSignature, BadArity, Impredicative, NeedsSignature, IllTyped, TypeTooLarge, NoSuchBranch, BranchTaken, NoSuchName, NameTaken, SameName, StillUsed, NothingToUndo, MainKept, BadName, Collision, JournalFull, TooManyBranches, TooManyNames, StoreFull, JournalFault, NotACodebase, Damaged, InputFault, OutputFault, Memory, Usage}
+use Rattle.uc_base.specs.declared.fault.Fault.TheVariants.{NotUtf8, TextTooLong, BadToken, NotBuilt, BadSyntax, LeftOut, TooDeep, DuplicateName, LoneSignature, Unbound, Ambiguous, BadArity, Impredicative, NeedsSignature, IllTyped, TypeTooLarge, NoSuchBranch, BranchTaken, NoSuchName, NameTaken, SameName, StillUsed, NothingToUndo, MainKept, BadName, Collision, NoSuchHash, JournalFull, TooManyBranches, AmbiguousHash, TooManyNames, StoreFull, JournalFault, NotACodebase, Damaged, InputFault, OutputFault, Memory, Usage}
 
 abbrev pub fault_number : Fault → ℕ
 fault_number NotUtf8 = 1
@@ -18,6 +18,8 @@ fault_number (LeftOut place) = 6
 fault_number (TooDeep place) = 7
 fault_number (DuplicateName place) = 8
 fault_number (LoneSignature place) = 9
+fault_number (Unbound place name) = 10
+fault_number (Ambiguous place names) = 11
 fault_number (BadArity at) = 12
 fault_number (Impredicative at) = 13
 fault_number (NeedsSignature at) = 14
@@ -33,8 +35,10 @@ fault_number (NothingToUndo name) = 27
 fault_number MainKept = 28
 fault_number BadName = 29
 fault_number (Collision hash old new) = 32
+fault_number (NoSuchHash at) = 33
 fault_number JournalFull = 34
 fault_number TooManyBranches = 35
+fault_number (AmbiguousHash at) = 39
 fault_number TooManyNames = 40
 fault_number StoreFull = 41
 fault_number JournalFault = 42
@@ -55,6 +59,8 @@ fault_name (LeftOut place) = codes "LeftOut"
 fault_name (TooDeep place) = codes "TooDeep"
 fault_name (DuplicateName place) = codes "DuplicateName"
 fault_name (LoneSignature place) = codes "LoneSignature"
+fault_name (Unbound place name) = codes "Unbound"
+fault_name (Ambiguous place names) = codes "Ambiguous"
 fault_name (BadArity at) = codes "BadArity"
 fault_name (Impredicative at) = codes "Impredicative"
 fault_name (NeedsSignature at) = codes "NeedsSignature"
@@ -70,8 +76,10 @@ fault_name (NothingToUndo name) = codes "NothingToUndo"
 fault_name MainKept = codes "MainKept"
 fault_name BadName = codes "BadName"
 fault_name (Collision hash old new) = codes "Collision"
+fault_name (NoSuchHash at) = codes "NoSuchHash"
 fault_name JournalFull = codes "JournalFull"
 fault_name TooManyBranches = codes "TooManyBranches"
+fault_name (AmbiguousHash at) = codes "AmbiguousHash"
 fault_name TooManyNames = codes "TooManyNames"
 fault_name StoreFull = codes "StoreFull"
 fault_name JournalFault = codes "JournalFault"
@@ -88,6 +96,11 @@ at_detail Nowhere = []
 at_detail (Spot spot) = []
 at_detail (Place place) = 32 ∷ place_text place
 
+-- names, each with a space before it
+abbrev pub names_detail : List (List ℕ) → List ℕ
+names_detail [] = []
+names_detail (name ∷ names) = 32 ∷ (name ++ names_detail names)
+
 -- what stands behind the name, with a space before it
 abbrev pub fault_detail : Fault → List ℕ
 fault_detail (BadToken place) = 32 ∷ place_text place
@@ -96,6 +109,8 @@ fault_detail (LeftOut place) = 32 ∷ place_text place
 fault_detail (TooDeep place) = 32 ∷ place_text place
 fault_detail (DuplicateName place) = 32 ∷ place_text place
 fault_detail (LoneSignature place) = 32 ∷ place_text place
+fault_detail (Unbound place name) = 32 ∷ (place_text place ++ (32 ∷ name))
+fault_detail (Ambiguous place names) = 32 ∷ (place_text place ++ names_detail (take 10 names))
 fault_detail (BadArity at) = at_detail at
 fault_detail (Impredicative at) = at_detail at
 fault_detail (NeedsSignature at) = at_detail at
@@ -109,6 +124,8 @@ fault_detail (SameName name) = 32 ∷ name
 fault_detail (StillUsed name) = 32 ∷ name
 fault_detail (NothingToUndo name) = 32 ∷ name
 fault_detail (Collision hash old new) = 32 ∷ 35 ∷ encode_lower hash.0
+fault_detail (NoSuchHash at) = at_detail at
+fault_detail (AmbiguousHash at) = at_detail at
 fault_detail (Damaged offset) = 32 ∷ decimal offset
 fault_detail _ = []
 

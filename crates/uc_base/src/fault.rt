@@ -1,12 +1,14 @@
 //! The named faults, one for each cause of a refusal.
-ghost use Rattle.std.specs.Prelude.{◌≡◌, ◌++◌, OnOk, IfOk, IfErr};
+ghost use Rattle.std.specs.Prelude.{◌≡◌, ◌++◌, take, OnOk, IfOk, IfErr};
 ghost use Rattle.uc_base.specs.declared.fault.Fault.TheVariants.{Memory};
-ghost use Rattle.uc_base.specs.Fault.{fault_number, fault_name, at_detail, fault_detail, fault_line};
+ghost use Rattle.uc_base.specs.Fault.{fault_number, fault_name, at_detail, names_detail, fault_detail, fault_line};
+ghost use Rattle.uc_base.specs.declared.fault.TheConstants.{SHOWN_NAMES};
 
 use crate::bytes::Bytes;
 use crate::decimal::write_decimal;
 use crate::hash::Hash;
 use crate::name::Name;
+use crate::name_list::NameList;
 use crate::place::{At, Place};
 use std::alloc::{AllocError, AllocFailed, Global};
 
@@ -31,6 +33,10 @@ pub enum Fault {
     DuplicateName(Place),
     /// The signature that begins here isn't followed by its binding.
     LoneSignature(Place),
+    /// No name means what is written here.
+    Unbound(Place, Name),
+    /// Several names, in name order, could be meant by what is written here.
+    Ambiguous(Place, NameList),
     /// A data type has another number of arguments than its declaration has parameters.
     BadArity(At),
     /// A quantifier stands inside an argument of a data type, a list or a tuple.
@@ -61,10 +67,14 @@ pub enum Fault {
     BadName,
     /// Two different canonical texts, the stored or earlier one first, have one digest.
     Collision(Hash, Bytes, Bytes),
+    /// No stored hash begins with the digits, or what has it lacks the member, the constructor or the sort.
+    NoSuchHash(At),
     /// The journal's text would be longer than its limit.
     JournalFull,
     /// There would be more branches than the limit.
     TooManyBranches,
+    /// Several stored hashes begin with the digits.
+    AmbiguousHash(At),
     /// All heads together would have more names than the limit.
     TooManyNames,
     /// The table of definitions would pass one of its limits.
@@ -94,6 +104,32 @@ fn write_at(at: &At, out: &mut Vec<u8>) -> Result<(), AllocError>
             place.write_text(out)
         }
         At::Nowhere | At::Spot(_) => Ok(()),
+    }
+}
+
+/// How many names a line has at most.
+const SHOWN_NAMES: usize = 10;
+
+fn first_names(names: &[Name]) -> &[Name]
+    ensures { result.now ≡ take SHOWN_NAMES names.now }
+{
+    if names.len() > SHOWN_NAMES {
+        &names[..SHOWN_NAMES]
+    } else {
+        names
+    }
+}
+
+fn write_names(names: &[Name], out: &mut Vec<u8>) -> Result<(), AllocError>
+    ensures { OnOk result (out.new.items ≡ out.old.items ++ names_detail names.now) }
+{
+    match names {
+        [] => Ok(()),
+        [first, rest @ ..] => {
+            out.push(b' ')?;
+            out.extend_from_slice(first.text())?;
+            write_names(rest, out)
+        }
     }
 }
 
@@ -131,6 +167,8 @@ impl Fault {
             Fault::TooDeep(_) => 7,
             Fault::DuplicateName(_) => 8,
             Fault::LoneSignature(_) => 9,
+            Fault::Unbound(..) => 10,
+            Fault::Ambiguous(..) => 11,
             Fault::BadArity(_) => 12,
             Fault::Impredicative(_) => 13,
             Fault::NeedsSignature(_) => 14,
@@ -146,8 +184,10 @@ impl Fault {
             Fault::MainKept => 28,
             Fault::BadName => 29,
             Fault::Collision(..) => 32,
+            Fault::NoSuchHash(_) => 33,
             Fault::JournalFull => 34,
             Fault::TooManyBranches => 35,
+            Fault::AmbiguousHash(_) => 39,
             Fault::TooManyNames => 40,
             Fault::StoreFull => 41,
             Fault::JournalFault => 42,
@@ -173,6 +213,8 @@ impl Fault {
             Fault::TooDeep(_) => "TooDeep",
             Fault::DuplicateName(_) => "DuplicateName",
             Fault::LoneSignature(_) => "LoneSignature",
+            Fault::Unbound(..) => "Unbound",
+            Fault::Ambiguous(..) => "Ambiguous",
             Fault::BadArity(_) => "BadArity",
             Fault::Impredicative(_) => "Impredicative",
             Fault::NeedsSignature(_) => "NeedsSignature",
@@ -188,8 +230,10 @@ impl Fault {
             Fault::MainKept => "MainKept",
             Fault::BadName => "BadName",
             Fault::Collision(..) => "Collision",
+            Fault::NoSuchHash(_) => "NoSuchHash",
             Fault::JournalFull => "JournalFull",
             Fault::TooManyBranches => "TooManyBranches",
+            Fault::AmbiguousHash(_) => "AmbiguousHash",
             Fault::TooManyNames => "TooManyNames",
             Fault::StoreFull => "StoreFull",
             Fault::JournalFault => "JournalFault",
@@ -215,11 +259,24 @@ impl Fault {
                 out.push(b' ')?;
                 place.write_text(out)
             }
+            Fault::Unbound(place, name) => {
+                out.push(b' ')?;
+                place.write_text(out)?;
+                out.push(b' ')?;
+                out.extend_from_slice(name.text())
+            }
+            Fault::Ambiguous(place, names) => {
+                out.push(b' ')?;
+                place.write_text(out)?;
+                write_names(first_names(names.as_slice()), out)
+            }
             Fault::BadArity(at)
             | Fault::Impredicative(at)
             | Fault::NeedsSignature(at)
             | Fault::IllTyped(at)
-            | Fault::TypeTooLarge(at) => write_at(at, out),
+            | Fault::TypeTooLarge(at)
+            | Fault::NoSuchHash(at)
+            | Fault::AmbiguousHash(at) => write_at(at, out),
             Fault::NoSuchBranch(name)
             | Fault::BranchTaken(name)
             | Fault::NoSuchName(name)

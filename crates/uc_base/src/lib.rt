@@ -8,6 +8,7 @@ mod fault;
 mod graph;
 mod hash;
 mod name;
+mod name_list;
 mod place;
 mod reference;
 mod steps;
@@ -25,6 +26,7 @@ pub use name::{
     NAME_LIMIT, Name, begins_comment, first_segment, is_digit, is_keyword, is_left_out, is_letter,
     is_name, is_operator, is_reserved, is_wordy,
 };
+pub use name_list::NameList;
 pub use place::{At, Place, Sort, Spot};
 pub use reference::Ref;
 pub use steps::Steps;

@@ -1,6 +1,6 @@
 //! Printed texts and look-ups.
 use crate::{
-    At, Bytes, Fault, Hash, Name, Place, Ref, Spot, builtin_name_of, builtin_number_of,
+    At, Bytes, Fault, Hash, Name, NameList, Place, Ref, Spot, builtin_name_of, builtin_number_of,
     read_decimal,
 };
 use std::alloc::Global;
@@ -98,6 +98,48 @@ fn prints_what_faults_hold(rt: HostRuntime) -> Result<(), Fail> {
         alloc,
         Fault::Collision(hash, old, new),
         wanted.as_str(),
+    )
+}
+
+#[test]
+fn prints_what_names_could_mean(rt: HostRuntime) -> Result<(), Fail> {
+    let alloc = rt.alloc();
+    let place = Place { line: 1, column: 7 };
+    let unbound = Fault::Unbound(place, Name::parse(alloc, b"y")?);
+    check_line(&rt, alloc, unbound, "refused 10 Unbound 1:7 y")?;
+    let mut two = Vec::new(alloc);
+    two.push(Name::parse(alloc, b"Int.+")?)?;
+    two.push(Name::parse(alloc, b"Nat.+")?)?;
+    let ambiguous = Fault::Ambiguous(place, NameList::from_vec(two));
+    check_line(
+        &rt,
+        alloc,
+        ambiguous,
+        "refused 11 Ambiguous 1:7 Int.+ Nat.+",
+    )?;
+    let mut many = Vec::new(alloc);
+    for text in ["a", "b", "c", "d", "e", "f", "g", "h", "i", "j", "k"] {
+        many.push(Name::parse(alloc, text.as_bytes())?)?;
+    }
+    let ambiguous = Fault::Ambiguous(place, NameList::from_vec(many));
+    check_line(
+        &rt,
+        alloc,
+        ambiguous,
+        "refused 11 Ambiguous 1:7 a b c d e f g h i j",
+    )?;
+    let at = At::Place(place);
+    check_line(
+        &rt,
+        alloc,
+        Fault::NoSuchHash(at),
+        "refused 33 NoSuchHash 1:7",
+    )?;
+    check_line(
+        &rt,
+        alloc,
+        Fault::AmbiguousHash(At::Nowhere),
+        "refused 39 AmbiguousHash",
     )
 }
 
