@@ -51,35 +51,46 @@ fn kinds(alloc: Global, blocks: &Blocks) -> Result<Vec<u8>, Fail> {
     Ok(out)
 }
 
+/// Holds where a text is cut into such tokens.
+fn cuts(rt: &impl Abort, alloc: Global, text: &str, wanted: &str) -> Result<(), Fail> {
+    let blocks = lex(alloc, text.as_bytes())?;
+    assert_eq!(rt;
+        kinds(alloc, &blocks)?.as_slice(),
+        wanted.as_bytes(),
+        "{text}"
+    );
+    Ok(())
+}
+
 #[test]
-fn cuts_tokens(rt: HostRuntime) -> Result<(), Fail> {
+fn cuts_names_and_symbols(rt: HostRuntime) -> Result<(), Fail> {
     for (text, wanted) in [
         ("", ""),
         ("if do_ x' _ __ _x", " k:if n:do_ n:x' w:_ n:__ n:_x"),
-        ("=-1", " n:=- N:1"),
         ("->-", " n:->-"),
         ("x!=y", " n:x! s:= n:y"),
-        (":-1", " n::- N:1"),
-        ("|-1", " n:|- N:1"),
-        (">-1", " n:>- N:1"),
         ("+--", " n:+--"),
-        ("a--b", " n:a"),
-        ("a -- b", " n:a"),
-        ("f -1", " n:f I:-1"),
-        ("f - 1", " n:f n:- N:1"),
-        ("+1+2", " I:+1 I:+2"),
         ("forall a.b", " k:forall n:a.b"),
         ("a.+ a..b a. b", " n:a.+ n:a s:. s:. n:b n:a s:. n:b"),
         ("= -> : | && ||", " s:= s:-> s:: s:| s:&& s:||"),
         ("(a,b)@[].", " s:( n:a s:, n:b s:) s:@ s:[ s:] s:."),
-        ("#00000000g", " H:#00000000 n:g"),
-        ("#00000000.01", " H:#00000000.0 N:1"),
-        ("#00000000.12#3", " H:#00000000.12#3"),
-        ("#00000000#0", " H:#00000000#0"),
-        ("#0123456789abcdef.", " H:#0123456789abcdef s:."),
-        ("#00000000.1234567890", " H:#00000000.123456789 N:0"),
-        ("##Nat.+ ##List", " B:##Nat.+ B:##List"),
         (" test> test >", " n:test n:> n:test n:>"),
+    ] {
+        cuts(&rt, rt.alloc(), text, wanted)?;
+    }
+    Ok(())
+}
+
+#[test]
+fn cuts_literals(rt: HostRuntime) -> Result<(), Fail> {
+    for (text, wanted) in [
+        ("=-1", " n:=- N:1"),
+        (":-1", " n::- N:1"),
+        ("|-1", " n:|- N:1"),
+        (">-1", " n:>- N:1"),
+        ("f -1", " n:f I:-1"),
+        ("f - 1", " n:f n:- N:1"),
+        ("+1+2", " I:+1 I:+2"),
         ("?  ?\" ?é ?\\n ?\\\"", " C:?  C:?\" C:?é C:?\\n C:?\\\""),
         (
             "18446744073709551615 -9223372036854775808",
@@ -89,18 +100,40 @@ fn cuts_tokens(rt: HostRuntime) -> Result<(), Fail> {
             "\"\" \"a\\\"b\" \"\t\r\0é\"",
             " T:\"\" T:\"a\\\"b\" T:\"\t\r\0é\"",
         ),
+    ] {
+        cuts(&rt, rt.alloc(), text, wanted)?;
+    }
+    Ok(())
+}
+
+#[test]
+fn cuts_references(rt: HostRuntime) -> Result<(), Fail> {
+    for (text, wanted) in [
+        ("#00000000g", " H:#00000000 n:g"),
+        ("#00000000.01", " H:#00000000.0 N:1"),
+        ("#00000000.12#3", " H:#00000000.12#3"),
+        ("#00000000#0", " H:#00000000#0"),
+        ("#0123456789abcdef.", " H:#0123456789abcdef s:."),
+        ("#00000000.1234567890", " H:#00000000.123456789 N:0"),
+        ("##Nat.+ ##List", " B:##Nat.+ B:##List"),
+    ] {
+        cuts(&rt, rt.alloc(), text, wanted)?;
+    }
+    Ok(())
+}
+
+#[test]
+fn passes_over_comments_and_folds(rt: HostRuntime) -> Result<(), Fail> {
+    for (text, wanted) in [
+        ("a--b", " n:a"),
+        ("a -- b", " n:a"),
         ("a\t\rb", " n:a n:b"),
         ("a\n---\n;{", " n:a"),
         ("a\n--- \t\r\n;{", " n:a"),
         ("a\n--- b\nc", " n:a n:c"),
         (" ---\na", " n:a"),
     ] {
-        let blocks = lex(rt.alloc(), text.as_bytes())?;
-        assert_eq!(rt;
-            kinds(rt.alloc(), &blocks)?.as_slice(),
-            wanted.as_bytes(),
-            "{text}"
-        );
+        cuts(&rt, rt.alloc(), text, wanted)?;
     }
     Ok(())
 }
@@ -113,13 +146,22 @@ fn refuses(rt: &impl Abort, alloc: Global, text: &[u8], wanted: &Fault) {
 }
 
 #[test]
-fn tells_first_faults(rt: HostRuntime) {
+fn refuses_numbers(rt: HostRuntime) {
     for (text, line, column) in [
         ("x = 18446744073709551616", 1, 5),
         ("-9223372036854775809", 1, 1),
         ("+9223372036854775808", 1, 1),
         (" 5a", 1, 2),
         ("5_", 1, 1),
+    ] {
+        let fault = Fault::BadToken(Place { line, column });
+        refuses(&rt, rt.alloc(), text.as_bytes(), &fault);
+    }
+}
+
+#[test]
+fn refuses_paths(rt: HostRuntime) {
+    for (text, line, column) in [
         (" a.if", 1, 2),
         ("if.a", 1, 1),
         ("a.do", 1, 1),
@@ -132,6 +174,21 @@ fn tells_first_faults(rt: HostRuntime) {
         ("a.=", 1, 1),
         ("a.--b", 1, 1),
         ("Nat.+.x", 1, 1),
+    ] {
+        let fault = Fault::BadToken(Place { line, column });
+        refuses(&rt, rt.alloc(), text.as_bytes(), &fault);
+    }
+    refuses(
+        &rt,
+        rt.alloc(),
+        &[b'a'; 129],
+        &Fault::BadToken(Place { line: 1, column: 1 }),
+    );
+}
+
+#[test]
+fn refuses_references(rt: HostRuntime) {
+    for (text, line, column) in [
         ("#0000000", 1, 1),
         ("#0000000A", 1, 1),
         ("x#00000000", 1, 2),
@@ -141,6 +198,15 @@ fn tells_first_faults(rt: HostRuntime) {
         ("##Natx", 1, 1),
         ("x ##Nat.foo", 1, 3),
         ("##", 1, 1),
+    ] {
+        let fault = Fault::BadToken(Place { line, column });
+        refuses(&rt, rt.alloc(), text.as_bytes(), &fault);
+    }
+}
+
+#[test]
+fn refuses_characters(rt: HostRuntime) {
+    for (text, line, column) in [
         (";", 1, 1),
         ("`", 1, 1),
         ("\\", 1, 1),
@@ -148,6 +214,16 @@ fn tells_first_faults(rt: HostRuntime) {
         ("\u{c}", 1, 1),
         ("x \"é\" ;", 1, 7),
         ("\t\r;", 1, 3),
+        ("a\n\n;{", 3, 1),
+    ] {
+        let fault = Fault::BadToken(Place { line, column });
+        refuses(&rt, rt.alloc(), text.as_bytes(), &fault);
+    }
+}
+
+#[test]
+fn refuses_texts_and_chars(rt: HostRuntime) {
+    for (text, line, column) in [
         ("\"abc", 1, 1),
         ("a\n \"abc\n\"", 2, 2),
         ("\"\\q\"", 1, 1),
@@ -155,11 +231,14 @@ fn tells_first_faults(rt: HostRuntime) {
         ("?\n", 1, 1),
         ("?\r", 1, 1),
         ("?\\q", 1, 1),
-        ("a\n\n;{", 3, 1),
     ] {
         let fault = Fault::BadToken(Place { line, column });
         refuses(&rt, rt.alloc(), text.as_bytes(), &fault);
     }
+}
+
+#[test]
+fn tells_what_is_left_out(rt: HostRuntime) {
     for (text, line, column) in [
         ("x = 1.5", 1, 5),
         ("99999999999999999999.5", 1, 1),
@@ -183,18 +262,34 @@ fn tells_first_faults(rt: HostRuntime) {
         let fault = Fault::LeftOut(Place { line, column });
         refuses(&rt, rt.alloc(), text.as_bytes(), &fault);
     }
-    refuses(
-        &rt,
-        rt.alloc(),
-        &[b'a'; 129],
-        &Fault::BadToken(Place { line: 1, column: 1 }),
-    );
-    refuses(&rt, rt.alloc(), b";\xff", &Fault::NotUtf8);
-    refuses(&rt, rt.alloc(), b"x\n---\n\xff", &Fault::NotUtf8);
 }
 
 #[test]
-fn marks_blocks_and_items(rt: HostRuntime) -> Result<(), Fail> {
+fn refuses_other_encodings(rt: HostRuntime) {
+    for text in [b";\xff".as_slice(), b"x\n---\n\xff".as_slice()] {
+        refuses(&rt, rt.alloc(), text, &Fault::NotUtf8);
+    }
+}
+
+/// Holds where a text has such blocks and items, plainly laid out and in one pass.
+fn marks(rt: &impl Abort, alloc: Global, text: &str, wanted: &str) -> Result<(), Fail> {
+    let plain = layout_of(alloc, text.as_bytes())?;
+    assert_eq!(rt;
+        shown(alloc, &plain)?.as_slice(),
+        wanted.as_bytes(),
+        "{text} plainly"
+    );
+    let blocks = lex(alloc, text.as_bytes())?;
+    assert_eq!(rt;
+        shown(alloc, &blocks)?.as_slice(),
+        wanted.as_bytes(),
+        "{text}"
+    );
+    Ok(())
+}
+
+#[test]
+fn marks_items_and_blocks(rt: HostRuntime) -> Result<(), Fail> {
     for (text, wanted) in [
         ("x = 5", " ; x = { ; 5 }"),
         ("   x = 5\ny = 6", " ; x = { ; 5 } ; y = { ; 6 }"),
@@ -210,6 +305,16 @@ fn marks_blocks_and_items(rt: HostRuntime) -> Result<(), Fail> {
         ("f = then", " ; f = { } then { }"),
         ("(a -> , b)", " ; ( a -> { } , b )"),
         ("f = | a", " ; f = { ; | a }"),
+        ("x = 1\n---\ny = 2", " ; x = { ; 1 }"),
+    ] {
+        marks(&rt, rt.alloc(), text, wanted)?;
+    }
+    Ok(())
+}
+
+#[test]
+fn marks_conditionals(rt: HostRuntime) -> Result<(), Fail> {
+    for (text, wanted) in [
         (
             "> if a then b else c",
             " ; > if a then { ; b } else { ; c }",
@@ -231,6 +336,15 @@ fn marks_blocks_and_items(rt: HostRuntime) -> Result<(), Fail> {
             "x = (y -> if a) then b",
             " ; x = { ; ( y -> { ; if a } ) then { ; b } }",
         ),
+    ] {
+        marks(&rt, rt.alloc(), text, wanted)?;
+    }
+    Ok(())
+}
+
+#[test]
+fn marks_cases(rt: HostRuntime) -> Result<(), Fail> {
+    for (text, wanted) in [
         (
             "x = match a with\n  B -> 1\n  C | c -> 2",
             " ; x = { ; match a with { ; B -> { ; 1 } ; C | c -> { ; 2 } } }",
@@ -243,6 +357,19 @@ fn marks_blocks_and_items(rt: HostRuntime) -> Result<(), Fail> {
             "x = match (match a with B -> c) with D -> e",
             " ; x = { ; match ( match a with { ; B -> { ; c } } ) with { ; D -> { ; e } } }",
         ),
+        (
+            "f = cases\n  0 -> a\n  n -> b",
+            " ; f = { ; cases { ; 0 -> { ; a } ; n -> { ; b } } }",
+        ),
+    ] {
+        marks(&rt, rt.alloc(), text, wanted)?;
+    }
+    Ok(())
+}
+
+#[test]
+fn marks_brackets(rt: HostRuntime) -> Result<(), Fail> {
+    for (text, wanted) in [
         ("x = (a ->\n  b\n  c)", " ; x = { ; ( a -> { ; b ; c } ) }"),
         ("x = (a\nb)\nc", " ; x = { ; ( a b ) } ; c"),
         ("x = (\ny = 1", " ; x = { ; ( y = { ; 1 } }"),
@@ -250,6 +377,15 @@ fn marks_blocks_and_items(rt: HostRuntime) -> Result<(), Fail> {
         ("x = (a]\ny", " ; x = { ; ( a ] } ; y"),
         ("x = a, b", " ; x = { ; a , b }"),
         ("x = [a -> b, c]", " ; x = { ; [ a -> { ; b } , c ] }"),
+    ] {
+        marks(&rt, rt.alloc(), text, wanted)?;
+    }
+    Ok(())
+}
+
+#[test]
+fn marks_types_and_lets(rt: HostRuntime) -> Result<(), Fail> {
+    for (text, wanted) in [
         (
             "structural type T =\n  A\n  | B -> c\nx = 1",
             " ; structural type T = A | B -> c ; x = { ; 1 }",
@@ -265,24 +401,8 @@ fn marks_blocks_and_items(rt: HostRuntime) -> Result<(), Fail> {
             "x =\n  let y = 1\n  y",
             " ; x = { ; let { ; y = { ; 1 } } ; y }",
         ),
-        (
-            "f = cases\n  0 -> a\n  n -> b",
-            " ; f = { ; cases { ; 0 -> { ; a } ; n -> { ; b } } }",
-        ),
-        ("x = 1\n---\ny = 2", " ; x = { ; 1 }"),
     ] {
-        let plain = layout_of(rt.alloc(), text.as_bytes())?;
-        assert_eq!(rt;
-            shown(rt.alloc(), &plain)?.as_slice(),
-            wanted.as_bytes(),
-            "{text} plainly"
-        );
-        let blocks = lex(rt.alloc(), text.as_bytes())?;
-        assert_eq!(rt;
-            shown(rt.alloc(), &blocks)?.as_slice(),
-            wanted.as_bytes(),
-            "{text}"
-        );
+        marks(&rt, rt.alloc(), text, wanted)?;
     }
     Ok(())
 }
