@@ -1,5 +1,6 @@
 //! Sets of names.
-ghost use Rattle.std.specs.Prelude.{◌≡◌, [], ◌∷◌, ◌++◌, not, OnOk, IfOk};
+ghost use Rattle.std.specs.Option.{option_copied};
+ghost use Rattle.std.specs.Prelude.{◌≡◌, [], ◌∷◌, ◌++◌, length, slice_get, not, OnOk, IfOk};
 ghost use Rattle.uc_base.specs.declared.fault.Fault.TheVariants.{DuplicateName};
 ghost use Rattle.uc_base.specs.Name.{is_one_of};
 ghost use Rattle.uc_scratch.specs.NameSets.{SameNames};
@@ -94,6 +95,23 @@ impl<'a> WrittenNames<'a> {
             self.push(name)?;
         }
         Ok(())
+    }
+
+    pub fn len(&self) -> usize
+        ensures { result ≡ length self.now }
+    {
+        self.names.len()
+    }
+
+    /// The name at a place, where there is one.
+    pub fn get(&self, index: usize) -> Option<&'a Written>
+        ensures { option_copied result ≡ slice_get self.now index }
+    {
+        if index < self.names.len() {
+            Some(self.names[index])
+        } else {
+            None
+        }
     }
 
     /// The first that stands among those before it.

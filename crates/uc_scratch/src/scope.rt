@@ -1,5 +1,6 @@
 //! Names of type variables.
-ghost use Rattle.std.specs.Prelude.{◌≡◌, [], ◌∷◌, ◌++◌, length, OnOk, IfOk};
+ghost use Rattle.std.specs.Option.{option_copied};
+ghost use Rattle.std.specs.Prelude.{◌≡◌, [], ◌∷◌, ◌++◌, length, slice_get, OnOk, IfOk};
 ghost use Rattle.uc_base.specs.Name.{is_one_of};
 ghost use Rattle.uc_scratch.specs.TypeLevels.{texts_of};
 
@@ -34,6 +35,17 @@ impl<'a> Scope<'a> {
         ensures { result ≡ length self.now }
     {
         self.names.len()
+    }
+
+    /// The name at a place, where there is one.
+    pub fn get(&self, index: usize) -> Option<&[u8]>
+        ensures { option_copied result ≡ slice_get self.now index }
+    {
+        if index < self.names.len() {
+            Some(self.names[index])
+        } else {
+            None
+        }
     }
 
     pub fn push(&mut self, name: &'a [u8]) -> Result<(), AllocError>

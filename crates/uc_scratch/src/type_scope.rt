@@ -29,6 +29,15 @@ fn add_quantified<'a>(t: &'a TypeExpr, scope: &mut Scope<'a>) -> Result<(), Allo
     }
 }
 
+/// The variables of the quantifiers at the front of a type, the outermost first.
+pub fn front_variables<'a>(alloc: Global, t: &'a TypeExpr) -> Result<Scope<'a>, AllocError>
+    ensures { IfOk result (λ scope. scope ≡ type_front t.now) }
+{
+    let mut scope = Scope::new(alloc);
+    add_quantified(t, &mut scope)?;
+    Ok(scope)
+}
+
 /// The levels of a signature or an annotation, with the quantifiers that are put in front.
 pub fn signature_levels<'a>(
     alloc: Global,
