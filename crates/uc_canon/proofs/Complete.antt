@@ -2,13 +2,15 @@
 use Rattle.std.proofs.Common.{◌≡◌, ℕ, zero, suc, ◌+◌, ◌<◌, ◌≤◌, ◌==◌, true, List, [], ◌∷◌, ◌++◌, Option, length, get_or, refl, sym, ap, subst, ◌∙◌, inl, inr, arith, append_assoc}
 use Rattle.std.specs.List.{list_any, Contains, slice_get}
 use Rattle.std.specs.Option.{option_map_or}
-use Rattle.std.proofs.lemmas.Bool.{cases_Bool, cases_eq, cases_lt, or_cases, eqb-true}
+use Rattle.std.proofs.lemmas.Bool.{cases_Bool, cases_eq, cases_lt, eqb-true, eq-eqb}
 use Rattle.std.proofs.lemmas.Option.{slice_get_past}
 use Rattle.std.proofs.lemmas.List.{append-nil, get_or_append_left, get_or_default}
 use Rattle.std.proofs.lemmas.List.Elements.{Contains-append_left, Contains-push}
+use Rattle.std.proofs.lemmas.List.Folds.{list_any_at}
+use Rattle.std.proofs.lemmas.Map.Views.{Contains-from_any}
 use Rattle.uc_base.specs.Graph.{row, Edge, InRange, Reaches, Together}
 use Rattle.uc_base.specs.Graph.Reaches.{one, more}
-use Rattle.uc_base.proofs.GraphOrder.{head_in, tail_in, in_cases}
+use Rattle.uc_base.proofs.GraphOrder.{head_in, in_cases}
 use Rattle.uc_canon.specs.Members.{Members, count_of}
 use Rattle.uc_canon.specs.Numbering.{rows_of, IsOneComponent, added, reached, order_from, place_in, IsArrangement}
 use Rattle.uc_canon.proofs.Places.{place_in-same, place_in-other}
@@ -23,11 +25,10 @@ contains_along xs ys v e h = let P : List ℕ → Type 0 = λ zs. Contains zs v 
 -- ---- what is added
 
 pub any_contains : (xs : List ℕ) (x : ℕ) → list_any (λ y. y == x) xs ≡ true → Contains xs x
-any_contains [] x e = absurd cc
-any_contains (y ∷ xs) x e = elim (or_cases (y == x) (list_any (λ y. y == x) xs) e) [
-  | inl a ↦ (0, omega arith, eqb-true y x a)
-  | inr b ↦ tail_in y x xs (any_contains xs x b)
-]
+any_contains xs x e = Contains-from_any {eq = λ z y. y == z} (λ z y h. sym (eqb-true y z h)) x xs e
+
+pub contains_any : (xs : List ℕ) (x : ℕ) → Contains xs x → list_any (λ y. y == x) xs ≡ true
+contains_any xs x (k, lt, e) = list_any_at (λ y. y == x) xs k x lt (eq-eqb (get_or xs k x) x e)
 
 added_front : (seen xs : List ℕ) → (ys : List ℕ) × (added seen xs ≡ seen ++ ys)
 added_front seen [] = ([], sym (append-nil seen))

@@ -1,10 +1,10 @@
 -- The text of a member depends on the places of what is reached when it is written, and on no later ones.
-use Rattle.std.proofs.Common.{◌≡◌, ℕ, zero, suc, ◌+◌, ◌<◌, ◌≤◌, ◌==◌, ◌↔◌, true, false, List, [], ◌∷◌, ◌++◌, Option, Some, length, get_or, drop, append-nil, refl, sym, ap, subst, ◌∙◌, inl, inr, arith}
+use Rattle.std.proofs.Common.{◌≡◌, ℕ, ◌+◌, ◌<◌, ◌≤◌, ◌==◌, ◌↔◌, true, false, List, [], ◌∷◌, ◌++◌, Option, Some, length, get_or, drop, append-nil, refl, sym, ap, subst, ◌∙◌, inl, inr, arith}
 use Rattle.std.specs.List.{list_any, All, Contains, slice_get}
 use Rattle.std.specs.Option.{option_map, option_map_or, option_and_then}
-use Rattle.std.proofs.lemmas.Bool.{cases_lt, eq-eqb, eqb-true, or_left, or_right}
+use Rattle.std.proofs.lemmas.Bool.{cases_lt, eqb-true}
 use Rattle.std.proofs.lemmas.List.{get_or_append_left, get_or_default, drop_all}
-use Rattle.std.proofs.lemmas.List.Elements.{All-head, All-tail, Contains-get_or}
+use Rattle.std.proofs.lemmas.List.Elements.{Contains-get_or}
 use Rattle.std.proofs.lemmas.Option.{slice_get-get_or, slice_get_read, slice_get-map, get_or_from_slice_get}
 use Rattle.std.specs.Cmp.Lexicographic.{slice_cmp}
 use Rattle.std.specs.Ordering.{nat_cmp}
@@ -17,12 +17,12 @@ use Rattle.uc_tree.specs.Targets.{targets_of}
 use Rattle.uc_tree.specs.Replacing.{Replacement, by_images, by_members, target_under, constructor_under, constructor_of, replaced}
 use Rattle.uc_tree.proofs.ReplacingLaws.{item_stays, items_in_turn}
 use Rattle.uc_canon.specs.Members.{Members, items_of, count_of}
-use Rattle.uc_canon.specs.Numbering.{members_among, links_of, rows_of, IsOneComponent, added, reached, order_from, place_in, renumbering, moved, IsBefore}
+use Rattle.uc_canon.specs.Numbering.{links_of, rows_of, IsOneComponent, added, reached, order_from, place_in, renumbering, moved, IsBefore}
 use Rattle.uc_canon.specs.Starts.{AreReached, item_text, moved_text, moved_texts, ComesBefore}
 use Rattle.uc_canon.specs.declared.standing.Standing.{Standing}
-use Rattle.uc_canon.proofs.Complete.{added_has, reached_front, reached_stuck, order_arranged}
+use Rattle.uc_canon.proofs.Complete.{contains_any, added_has, reached_front, reached_stuck, order_arranged}
 use Rattle.uc_canon.proofs.ReachSteps.{place_in_front}
-use Rattle.uc_canon.proofs.Renumbered.{renumbering_at, renumbering_stands, replaced_there, links_below}
+use Rattle.uc_canon.proofs.Renumbered.{OfMember, of_members, renumbering_at, renumbering_stands, replaced_there, links_below}
 
 -- ---- one item under two replacements
 
@@ -48,26 +48,6 @@ same_replaced m o i j e agree =
       in_pattern = λ y z p q. sym (agree x h).1 ∙ p ∙ sym (stays_in_pattern y) ∙ q;
     })
 
--- ---- own targets
-
--- a fact of the member to which a target leads
-abbrev OfMember : (ℕ → Type 0) → Target → Type 0
-OfMember P (Stored r) = Unit {0}
-OfMember P (Own u) = P u
-OfMember P (OwnCtor u c) = P u
-
-along : (P : ℕ → Type 0) (x y : Target) → x ≡ y → OfMember P x → OfMember P y
-along P x y e h = let Q : Target → Type 0 = λ z. OfMember P z in subst Q e h
-
-of_members : (P : ℕ → Type 0) (xs : List Target) → All P (members_among xs) → (x : Target) → Contains xs x → OfMember P x
-of_members P [] h x (k, lt, e) = absurd (omega arith)
-of_members P (Stored r ∷ xs) h x (zero, lt, e) = along P (Stored r) x e tt
-of_members P (Own u ∷ xs) h x (zero, lt, e) = along P (Own u) x e (All-head P u (members_among xs) h)
-of_members P (OwnCtor u c ∷ xs) h x (zero, lt, e) = along P (OwnCtor u c) x e (All-head P u (members_among xs) h)
-of_members P (Stored r ∷ xs) h x (suc k, lt, e) = of_members P xs h x (k, omega arith, e)
-of_members P (Own u ∷ xs) h x (suc k, lt, e) = of_members P xs (All-tail P u (members_among xs) h) x (k, omega arith, e)
-of_members P (OwnCtor u c ∷ xs) h x (suc k, lt, e) = of_members P xs (All-tail P u (members_among xs) h) x (k, omega arith, e)
-
 -- where both have the same members, they agree
 members_agree : (ms ns : List Target) (x : Target) → OfMember (λ u. slice_get ms u ≡ slice_get ns u) x → Agree (by_members ms) (by_members ns) x
 members_agree ms ns (Stored r) h = (refl, refl)
@@ -75,11 +55,6 @@ members_agree ms ns (Own u) h = (h, h)
 members_agree ms ns (OwnCtor u c) h = let e = ap (option_and_then (constructor_of c)) h in (e, e)
 
 -- ---- what is reached
-
-pub contains_any : (xs : List ℕ) (x : ℕ) → Contains xs x → list_any (λ y. y == x) xs ≡ true
-contains_any [] x (k, lt, e) = absurd (omega arith)
-contains_any (y ∷ xs) x (zero, lt, e) = or_left (y == x) (list_any (λ z. z == x) xs) (eq-eqb y x e)
-contains_any (y ∷ xs) x (suc k, lt, e) = or_right (y == x) (list_any (λ z. z == x) xs) (contains_any xs x (k, omega arith, e))
 
 row_is : (m : Members) (u : ℕ) (i : Item) → slice_get (items_of m) u ≡ Some i → row (rows_of m) u ≡ links_of i
 row_is m u i e = get_or_from_slice_get (rows_of m) u (links_of i) [] (slice_get-map links_of (items_of m) u ∙ ap (option_map links_of) e)

@@ -22,20 +22,35 @@ use Rattle.uc_canon.specs.Members.{Members, terms, kinds, items_of, count_of, te
 use Rattle.uc_canon.specs.Numbering.{members_among, links_of, rows_of, IsClosed, place_in, renumbering, moved, IsReordered}
 use Rattle.uc_canon.specs.Starts.{item_text, moved_text, moved_texts, text_in}
 
--- ---- own targets below a count
+-- ---- own targets
 
-below_along : (count : ℕ) (x y : Target) → x ≡ y → IsOwnBelow count x → IsOwnBelow count y
-below_along count x y e h = let P : Target → Type 0 = λ z. IsOwnBelow count z in subst P e h
+-- a fact of the member to which a target leads
+abbrev pub OfMember : (ℕ → Type 0) → Target → Type 0
+OfMember P (Stored r) = Unit {0}
+OfMember P (Own u) = P u
+OfMember P (OwnCtor u c) = P u
 
--- each target is, where the members among them are
+along : (P : ℕ → Type 0) (x y : Target) → x ≡ y → OfMember P x → OfMember P y
+along P x y e h = let Q : Target → Type 0 = λ z. OfMember P z in subst Q e h
+
+-- it holds at each target, where it holds of the members among them
+pub of_members : (P : ℕ → Type 0) (xs : List Target) → All P (members_among xs) → (x : Target) → Contains xs x → OfMember P x
+of_members P [] h x (k, lt, e) = absurd (omega arith)
+of_members P (Stored r ∷ xs) h x (zero, lt, e) = along P (Stored r) x e tt
+of_members P (Own u ∷ xs) h x (zero, lt, e) = along P (Own u) x e (All-head P u (members_among xs) h)
+of_members P (OwnCtor u c ∷ xs) h x (zero, lt, e) = along P (OwnCtor u c) x e (All-head P u (members_among xs) h)
+of_members P (Stored r ∷ xs) h x (suc k, lt, e) = of_members P xs h x (k, omega arith, e)
+of_members P (Own u ∷ xs) h x (suc k, lt, e) = of_members P xs (All-tail P u (members_among xs) h) x (k, omega arith, e)
+of_members P (OwnCtor u c ∷ xs) h x (suc k, lt, e) = of_members P xs (All-tail P u (members_among xs) h) x (k, omega arith, e)
+
+below_there : (count : ℕ) (x : Target) → OfMember (λ u. u < count) x → IsOwnBelow count x
+below_there count (Stored r) h = h
+below_there count (Own u) h = h
+below_there count (OwnCtor u c) h = h
+
+-- each target is below a count, where the members among them are
 pub own_below : (count : ℕ) (xs : List Target) → All (λ u. u < count) (members_among xs) → (x : Target) → Contains xs x → IsOwnBelow count x
-own_below count [] h x (k, lt, e) = absurd (omega arith)
-own_below count (Stored r ∷ xs) h x (zero, lt, e) = below_along count (Stored r) x e tt
-own_below count (Own u ∷ xs) h x (zero, lt, e) = below_along count (Own u) x e (All-head (λ u. u < count) u (members_among xs) h)
-own_below count (OwnCtor u c ∷ xs) h x (zero, lt, e) = below_along count (OwnCtor u c) x e (All-head (λ u. u < count) u (members_among xs) h)
-own_below count (Stored r ∷ xs) h x (suc k, lt, e) = own_below count xs h x (k, omega arith, e)
-own_below count (Own u ∷ xs) h x (suc k, lt, e) = own_below count xs (All-tail (λ u. u < count) u (members_among xs) h) x (k, omega arith, e)
-own_below count (OwnCtor u c ∷ xs) h x (suc k, lt, e) = own_below count xs (All-tail (λ u. u < count) u (members_among xs) h) x (k, omega arith, e)
+own_below count xs h x c = below_there count x (of_members (λ u. u < count) xs h x c)
 
 -- what stands for each member below a count may have constructors
 abbrev pub StandBelow : (ms : List Target) (count : ℕ) → Type 0

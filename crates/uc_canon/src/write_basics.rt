@@ -1,10 +1,17 @@
 //! Numbers, texts and literals as canonical text.
-ghost use Rattle.std.specs.Prelude.{◌≡◌, ◌++◌, OnOk};
+ghost use Rattle.std.specs.Prelude.{◌≡◌, [], ◌∷◌, ◌++◌, OnOk};
 ghost use Rattle.uc_canon.specs.Spelling.{number_text, bytes_text, literal_text};
 
 use std::alloc::AllocError;
 use uc_base::write_decimal;
 use uc_tree::Literal;
+
+pub(crate) fn write_tag(tag: u8, out: &mut Vec<u8>) -> Result<(), AllocError>
+    ensures { OnOk result (out.new.items ≡ out.old.items ++ tag ∷ []) }
+{
+    out.push(tag)?;
+    Ok(())
+}
 
 #[tactic(auto, unfolding(crate::specs::Spelling::number_text))]
 pub(crate) fn write_number(number: u64, out: &mut Vec<u8>) -> Result<(), AllocError>
@@ -35,14 +42,8 @@ pub(crate) fn write_literal(literal: &Literal, out: &mut Vec<u8>) -> Result<(), 
             out.push(if z.is_negative() { b'-' } else { b'+' })?;
             write_number(z.unsigned_abs(), out)
         }
-        Literal::Boolean(true) => {
-            out.push(b'y')?;
-            Ok(())
-        }
-        Literal::Boolean(false) => {
-            out.push(b'z')?;
-            Ok(())
-        }
+        Literal::Boolean(true) => write_tag(b'y', out),
+        Literal::Boolean(false) => write_tag(b'z', out),
         Literal::Text(text) => {
             out.push(b'x')?;
             write_bytes(text.as_slice(), out)

@@ -1,9 +1,9 @@
 //! Patterns as canonical text.
-ghost use Rattle.std.specs.Prelude.{◌≡◌, ◌++◌, OnOk};
+ghost use Rattle.std.specs.Prelude.{◌≡◌, ◌∷◌, ◌++◌, OnOk};
 ghost use Rattle.uc_tree.specs.Patterns.{patterns_of};
 ghost use Rattle.uc_canon.specs.Spelling.{pattern_target_text, pattern_text, counted_patterns};
 
-use crate::write_basics::{write_literal, write_number};
+use crate::write_basics::{write_literal, write_number, write_tag};
 use std::alloc::AllocError;
 use uc_base::Ref;
 use uc_tree::{Pattern, PatternNode, Target};
@@ -30,23 +30,14 @@ pub(crate) fn write_pattern(pattern: &Pattern, out: &mut Vec<u8>) -> Result<(), 
     ensures { OnOk result (out.new.items ≡ out.old.items ++ pattern_text pattern.now) }
 {
     match &pattern.node {
-        PatternNode::Any => {
-            out.push(b'_')?;
-            Ok(())
-        }
-        PatternNode::Var => {
-            out.push(b'v')?;
-            Ok(())
-        }
+        PatternNode::Any => write_tag(b'_', out),
+        PatternNode::Var => write_tag(b'v', out),
         PatternNode::As(a) => {
             out.push(b'@')?;
             write_pattern(a, out)
         }
         PatternNode::Literal(literal) => write_literal(literal, out),
-        PatternNode::Unit => {
-            out.push(b'e')?;
-            Ok(())
-        }
+        PatternNode::Unit => write_tag(b'e', out),
         PatternNode::Tuple(ps) => {
             out.push(b'p')?;
             write_patterns(ps, out)
@@ -60,17 +51,25 @@ pub(crate) fn write_pattern(pattern: &Pattern, out: &mut Vec<u8>) -> Result<(), 
             write_pattern_target(x, out)?;
             write_patterns(ps, out)
         }
-        PatternNode::Cons(a, b) => {
-            out.push(b'<')?;
-            write_pattern(a, out)?;
-            write_pattern(b, out)
-        }
-        PatternNode::Snoc(a, b) => {
-            out.push(b'>')?;
-            write_pattern(a, out)?;
-            write_pattern(b, out)
-        }
+        PatternNode::Cons(a, b) => write_pair(b'<', a, b, out),
+        PatternNode::Snoc(a, b) => write_pair(b'>', a, b, out),
     }
+}
+
+/// Writes a tag, and then two patterns.
+#[cycle(write_pattern)]
+#[tactic(auto, using(crate::proofs::Counts::parts))]
+fn write_pair(
+    tag: u8,
+    first: &Pattern,
+    second: &Pattern,
+    out: &mut Vec<u8>,
+) -> Result<(), AllocError>
+    ensures { OnOk result (out.new.items ≡ out.old.items ++ tag ∷ (pattern_text first.now ++ pattern_text second.now)) }
+{
+    out.push(tag)?;
+    write_pattern(first, out)?;
+    write_pattern(second, out)
 }
 
 #[cycle(write_pattern)]

@@ -1,10 +1,10 @@
 //! Terms as canonical text.
-ghost use Rattle.std.specs.Prelude.{◌≡◌, ◌++◌, OnOk};
+ghost use Rattle.std.specs.Prelude.{◌≡◌, ◌∷◌, ◌++◌, OnOk};
 ghost use Rattle.uc_tree.specs.Terms.{terms_of};
 ghost use Rattle.uc_tree.specs.TermViews.{cases_of};
 ghost use Rattle.uc_canon.specs.Spelling.{link_text, term_text, counted_terms, counted_cases, case_text};
 
-use crate::write_basics::{write_literal, write_number};
+use crate::write_basics::{write_literal, write_number, write_tag};
 use crate::write_patterns::write_pattern;
 use crate::write_types::{write_signature, write_type};
 use std::alloc::AllocError;
@@ -51,49 +51,22 @@ pub(crate) fn write_term(term: &Term, out: &mut Vec<u8>) -> Result<(), AllocErro
             write_number(u64::from(*n), out)
         }
         TermNode::Literal(literal) => write_literal(literal, out),
-        TermNode::Unit => {
-            out.push(b'e')?;
-            Ok(())
-        }
+        TermNode::Unit => write_tag(b'e', out),
         TermNode::Link(x) => write_link(x, out),
-        TermNode::Lambda(a) => {
-            out.push(b'l')?;
-            write_term(a, out)
-        }
-        TermNode::Apply(a, b) => {
-            out.push(b'a')?;
-            write_term(a, out)?;
-            write_term(b, out)
-        }
+        TermNode::Lambda(a) => write_tagged(b'l', a, out),
+        TermNode::Apply(a, b) => write_pair(b'a', a, b, out),
         TermNode::Annotated(a, ty) => {
-            out.push(b's')?;
-            write_term(a, out)?;
+            write_tagged(b's', a, out)?;
             write_type(ty, out)
         }
-        TermNode::Tuple(ts) => {
-            out.push(b'p')?;
-            write_terms(ts, out)
-        }
-        TermNode::List(ts) => {
-            out.push(b'g')?;
-            write_terms(ts, out)
-        }
+        TermNode::Tuple(ts) => write_listed(b'p', ts, out),
+        TermNode::List(ts) => write_listed(b'g', ts, out),
         TermNode::If(a, b, c) => {
-            out.push(b'f')?;
-            write_term(a, out)?;
-            write_term(b, out)?;
+            write_pair(b'f', a, b, out)?;
             write_term(c, out)
         }
-        TermNode::And(a, b) => {
-            out.push(b'w')?;
-            write_term(a, out)?;
-            write_term(b, out)
-        }
-        TermNode::Or(a, b) => {
-            out.push(b'o')?;
-            write_term(a, out)?;
-            write_term(b, out)
-        }
+        TermNode::And(a, b) => write_pair(b'w', a, b, out),
+        TermNode::Or(a, b) => write_pair(b'o', a, b, out),
         TermNode::Let(ty, a, b) => {
             out.push(b'd')?;
             write_signature(ty, out)?;
@@ -101,11 +74,41 @@ pub(crate) fn write_term(term: &Term, out: &mut Vec<u8>) -> Result<(), AllocErro
             write_term(b, out)
         }
         TermNode::Match(a, cs) => {
-            out.push(b'j')?;
-            write_term(a, out)?;
+            write_tagged(b'j', a, out)?;
             write_cases(cs, out)
         }
     }
+}
+
+/// Writes a tag, and then a term.
+#[cycle(write_term)]
+#[tactic(auto, using(crate::proofs::Counts::parts))]
+fn write_tagged(tag: u8, term: &Term, out: &mut Vec<u8>) -> Result<(), AllocError>
+    ensures { OnOk result (out.new.items ≡ out.old.items ++ tag ∷ term_text term.now) }
+{
+    out.push(tag)?;
+    write_term(term, out)
+}
+
+/// Writes a tag, and then two terms.
+#[cycle(write_term)]
+#[tactic(auto, using(crate::proofs::Counts::parts))]
+fn write_pair(tag: u8, first: &Term, second: &Term, out: &mut Vec<u8>) -> Result<(), AllocError>
+    ensures { OnOk result (out.new.items ≡ out.old.items ++ tag ∷ (term_text first.now ++ term_text second.now)) }
+{
+    out.push(tag)?;
+    write_term(first, out)?;
+    write_term(second, out)
+}
+
+/// Writes a tag, and then how many terms and each.
+#[cycle(write_term)]
+#[tactic(auto, using(crate::proofs::Counts::parts))]
+fn write_listed(tag: u8, terms: &[Term], out: &mut Vec<u8>) -> Result<(), AllocError>
+    ensures { OnOk result (out.new.items ≡ out.old.items ++ tag ∷ counted_terms (terms_of terms.now)) }
+{
+    out.push(tag)?;
+    write_terms(terms, out)
 }
 
 #[cycle(write_term)]

@@ -3,7 +3,7 @@ ghost use Rattle.std.specs.Prelude.{◌≡◌, ◌++◌, OnOk};
 ghost use Rattle.uc_tree.specs.Types.{tys_of};
 ghost use Rattle.uc_canon.specs.Spelling.{type_target_text, type_text, counted_types, signature_text};
 
-use crate::write_basics::write_number;
+use crate::write_basics::{write_number, write_tag};
 use std::alloc::AllocError;
 use uc_base::Ref;
 use uc_tree::{Target, Ty, TyNode};
@@ -49,10 +49,7 @@ pub(crate) fn write_type(ty: &Ty, out: &mut Vec<u8>) -> Result<(), AllocError>
             write_type(a, out)?;
             write_type(b, out)
         }
-        TyNode::Unit => {
-            out.push(b'e')?;
-            Ok(())
-        }
+        TyNode::Unit => write_tag(b'e', out),
         TyNode::Tuple(ts) => {
             out.push(b'p')?;
             write_types(ts, out)
@@ -82,10 +79,7 @@ pub(crate) fn write_signature(signature: &Option<Ty>, out: &mut Vec<u8>) -> Resu
     ensures { OnOk result (out.new.items ≡ out.old.items ++ signature_text signature.now) }
 {
     match signature {
-        None => {
-            out.push(b'-')?;
-            Ok(())
-        }
+        None => write_tag(b'-', out),
         Some(ty) => {
             out.push(b':')?;
             write_type(ty, out)

@@ -8,6 +8,15 @@ use Rattle.uc_canon.proofs.write_terms.+write_term.Given as goal
 abbrev pub decreases-write_term : goal.decreases-write_term
 decreases-write_term l = 2 * term_size l.term.now
 
+abbrev pub decreases-write_tagged : goal.decreases-write_tagged
+decreases-write_tagged l = 2 * term_size l.term.now + 1
+
+abbrev pub decreases-write_pair : goal.decreases-write_pair
+decreases-write_pair l = 2 * (term_size l.first.now + term_size l.second.now) + 1
+
+abbrev pub decreases-write_listed : goal.decreases-write_listed
+decreases-write_listed l = 2 * terms_size (terms_of l.terms.now) + 1
+
 abbrev pub decreases-write_terms : goal.decreases-write_terms
 decreases-write_terms l = 2 * terms_size (terms_of l.terms.now)
 
