@@ -2,5 +2,10 @@ pub mod Faults
 pub mod Flaws
 pub mod Laws
 pub mod Monotypes
+pub mod PatternTyping
+pub mod Polytypes
+pub mod Subtyping
+pub mod Typing
+pub mod TypingExamples
 pub mod Walks
 pub mod WellFormed

@@ -11,7 +11,7 @@ mod walk_terms;
 mod walk_types;
 
 pub use check::{check_decls, check_definition};
-pub use laws::kinds_laws;
+pub use laws::{kinds_laws, typing_examples};
 
 #[cfg(test)]
 mod tests;
