@@ -2,6 +2,7 @@
 use Rattle.std.proofs.Common.{◌≡◌, ℕ, ◌≤◌, List, [], ◌∷◌, length, map, Some, None, arith, sym, ap, subst, ◌∙◌}
 use Rattle.std.proofs.lemmas.List.{length-map}
 use Rattle.std.specs.Prelude.{insert, sum_by}
+use Rattle.std.specs.Option.{option_or}
 use Rattle.std.specs.declared.boxed.Box.{Box}
 use Rattle.uc_base.specs.declared.fault.Fault.{Fault}
 use Rattle.uc_base.specs.declared.hash.Hash.{Hash}
@@ -14,12 +15,12 @@ use Rattle.uc_store.specs.declared.stored.Stored.{Stored}
 use Rattle.uc_store.specs.Checked.{Checked}
 use Rattle.uc_store.specs.Drafts.{drafted, AreCounts, IsDraft}
 use Rattle.uc_store.specs.Entries.{Entry}
-use Rattle.uc_store.specs.Growth.{Digest, entry_at, hash_of, opened, stored_from, with_entry, with_entries, with_new, with_component, with_components, collision_with, collision_in, or_else}
+use Rattle.uc_store.specs.Growth.{Digest, entry_at, hash_of, opened, stored_from, with_entry, with_entries, with_new, with_component, with_components, collision_with, collision_in}
 use Rattle.uc_store.specs.Places.{boxed, IsPlaceBehind}
 use Rattle.uc_store.specs.Storable.{HasTypes, AreStorable, IsMade}
 use Rattle.uc_store.specs.Table.{Table, IsTable, entry_under, nodes_of_entry}
 use Rattle.uc_store.proofs.Boxes.{boxed-insert}
-use Rattle.uc_store.proofs.Growing.{or_else_none, made_step}
+use Rattle.uc_store.proofs.Growing.{option_or_none, made_step}
 use Rattle.uc_store.proofs.Making.{nodes-stored_from}
 use Rattle.uc_store.proofs.Tables.{with_entry-insert, with_entries-with, under_entries, sorted_with, empty_table}
 
@@ -47,7 +48,7 @@ fresh_step old new b p e value behind is =
 
 absent_fresh : (t : Table) (d : Draft) (h : Hash) → IsDraft t d → entry_under h (drafted t d) ≡ None → entry_under h (boxed d.fresh.items) ≡ None
 absent_fresh t d h s n =
-    (or_else_none (entry_under h (boxed d.fresh.items)) (entry_under h t) (sym (under_entries h (boxed d.fresh.items) t s.ordered) ∙ n)).0
+    (option_or_none (entry_under h (boxed d.fresh.items)) (entry_under h t) (sym (under_entries h (boxed d.fresh.items) t s.ordered) ∙ n)).0
 
 pub drafted_step : (t : Table) (d e : Draft) (x : Entry) → IsDraft t d → entry_under x.hash (drafted t d) ≡ None → boxed e.fresh.items ≡ with_entry x (boxed d.fresh.items)
     → drafted t e ≡ with_entry x (drafted t d)
@@ -91,7 +92,7 @@ drafting_step digest table new rest rest' d e c hash s front is draft added apar
       storable = subst R (sym grown) storable.1;
       apart =
           ap (λ u. collision_in digest u rest') grown
-          ∙ sym (ap (λ o. or_else o (collision_in digest (with_component digest T c) rest')) none) ∙ sym (ap (λ xs. collision_in digest T xs) front) ∙ s.apart;
+          ∙ sym (ap (λ o. option_or o (collision_in digest (with_component digest T c) rest')) none) ∙ sym (ap (λ xs. collision_in digest T xs) front) ∙ s.apart;
     }
 
 -- a collision of the next component is the first of all
@@ -101,7 +102,7 @@ drafting_fails digest table new rest rest' d c hash f s front is fails =
     let T : Table = drafted table d in
     let some : collision_with (hash_of digest c) (text_of c.members) (entry_under (hash_of digest c) T) ≡ Some f =
     sym (ap (λ h. collision_with h (text_of c.members) (entry_under h T)) is) ∙ fails in
-    sym s.apart ∙ ap (λ xs. collision_in digest T xs) front ∙ ap (λ o. or_else o (collision_in digest (with_component digest T c) rest')) some
+    sym s.apart ∙ ap (λ xs. collision_in digest T xs) front ∙ ap (λ o. option_or o (collision_in digest (with_component digest T c) rest')) some
 
 -- nothing is drafted yet
 pub drafting_begins : (digest : Digest) (table : Table) (new : List Checked) (d : Draft) → d.fresh.items ≡ [] → IsTable table → AreCounts table d.counts → IsMade digest table → AreStorable digest table new

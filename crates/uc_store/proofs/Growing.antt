@@ -1,11 +1,12 @@
 -- Growth leaves what is stored as it is, and keeps a table one that was made of storable components.
 use Rattle.std.proofs.Common.{◌≡◌, Bool, true, false, List, [], ◌∷◌, ◌++◌, Option, Some, None, refl, sym, ap, subst, ◌∙◌}
 use Rattle.std.specs.Prelude.{if◌then◌else◌}
+use Rattle.std.specs.Option.{option_or}
 use Rattle.uc_base.specs.declared.hash.Hash.{Hash}
 use Rattle.uc_canon.specs.Members.{text_of}
 use Rattle.uc_store.specs.Checked.{Checked}
 use Rattle.uc_store.specs.Entries.{Entry}
-use Rattle.uc_store.specs.Growth.{Digest, Extends, entry_of, hash_of, with_new, with_entry, with_entries, with_component, with_components, collision_with, collision_in, or_else}
+use Rattle.uc_store.specs.Growth.{Digest, Extends, entry_of, hash_of, with_new, with_entry, with_entries, with_component, with_components, collision_with, collision_in}
 use Rattle.uc_store.specs.Hashes.{is_same_hash}
 use Rattle.uc_store.specs.Laws.{EqualTextsHaveEqualReferences, GrowthExtends}
 use Rattle.uc_store.specs.Storable.{IsStorable, AreStorable, IsMade}
@@ -50,15 +51,15 @@ storable_last : (digest : Digest) (t : Table) (new : List Checked) (c : Checked)
 storable_last digest t [] c a s = (s, a)
 storable_last digest t (d ∷ new) c a s = (a.0, storable_last digest (with_component digest t d) new c a.1 s)
 
-pub or_else_none : {A : Type 0} (x y : Option A) → or_else x y ≡ None → (x ≡ None) × (y ≡ None)
-or_else_none None y e = (refl, e)
-or_else_none (Some x) y e = absurd cc
+pub option_or_none : {A : Type 0} (x y : Option A) → option_or x y ≡ None → (x ≡ None) × (y ≡ None)
+option_or_none None y e = (refl, e)
+option_or_none (Some x) y e = absurd cc
 
 collision_last : (digest : Digest) (t : Table) (new : List Checked) (c : Checked) → collision_in digest t new ≡ None
     → collision_with (hash_of digest c) (text_of c.members) (entry_under (hash_of digest c) (with_components digest t new)) ≡ None → collision_in digest t (new ++ c ∷ []) ≡ None
 collision_last digest t [] c a n = rw n refl
 collision_last digest t (d ∷ new) c a n =
-    let parts = or_else_none (collision_with (hash_of digest d) (text_of d.members) (entry_under (hash_of digest d) t)) (collision_in digest (with_component digest t d) new) a in
+    let parts = option_or_none (collision_with (hash_of digest d) (text_of d.members) (entry_under (hash_of digest d) t)) (collision_in digest (with_component digest t d) new) a in
     rw parts.0 (collision_last digest (with_component digest t d) new c parts.1 n)
 
 -- a storable component without a collision gives another table that was made of such ones

@@ -3,13 +3,14 @@ use Rattle.std.proofs.Common.{◌≡◌, ℕ, zero, suc, ◌+◌, ◌-◌, ◌<�
 use Rattle.std.specs.Prelude.{insert, slice_get, option_map, sum_by, if◌then◌else◌}
 use Rattle.std.specs.List.{AllByRecursion}
 use Rattle.std.specs.List.Sorted.{IsStrictlySortedBy}
+use Rattle.std.specs.Option.{option_or}
 use Rattle.std.proofs.lemmas.Option.{slice_get-get_or}
 use Rattle.std.proofs.lemmas.List.Sums.{sum_by-cons}
 use Rattle.std.specs.Ordering.{is_lt}
 use Rattle.std.specs.declared.cmp.Ordering.TheVariants.{Less}
 use Rattle.uc_base.specs.declared.hash.Hash.{Hash}
 use Rattle.uc_store.specs.Entries.{Entry}
-use Rattle.uc_store.specs.Growth.{with_entry, with_entries, or_else}
+use Rattle.uc_store.specs.Growth.{with_entry, with_entries}
 use Rattle.uc_store.specs.Hashes.{hash_order, is_same_hash, next_hash}
 use Rattle.uc_store.specs.Places.{IsPlaceBehind}
 use Rattle.uc_store.specs.Table.{Table, IsTable, hashes_of, entry_under}
@@ -182,13 +183,13 @@ under_with q e (f ∷ t) n = go (under_with q e t (under_split e.hash f t n).1) 
     go rest false r = rw r (behind rest (is_same_hash q f.hash) refl)
 
 -- what is found once entries are put in
-pub under_entries : (q : Hash) (fs : List Entry) (t : Table) → IsTable (with_entries fs t) → entry_under q (with_entries fs t) ≡ or_else (entry_under q fs) (entry_under q t)
+pub under_entries : (q : Hash) (fs : List Entry) (t : Table) → IsTable (with_entries fs t) → entry_under q (with_entries fs t) ≡ option_or (entry_under q fs) (entry_under q t)
 under_entries q [] t s = refl
 under_entries q (f ∷ fs) t s =
     let before : IsTable (with_entries fs t) × (entry_under f.hash (with_entries fs t) ≡ None) = apart_with f (with_entries fs t) s in
     under_with q f (with_entries fs t) before.1 ∙ go (under_entries q fs t before.0) (is_same_hash q f.hash) refl
   where
-    go : entry_under q (with_entries fs t) ≡ or_else (entry_under q fs) (entry_under q t) → (r : Bool) → is_same_hash q f.hash ≡ r → (if is_same_hash q f.hash then Some f else entry_under q (with_entries fs t)) ≡ or_else (entry_under q (f ∷ fs)) (entry_under q t)
+    go : entry_under q (with_entries fs t) ≡ option_or (entry_under q fs) (entry_under q t) → (r : Bool) → is_same_hash q f.hash ≡ r → (if is_same_hash q f.hash then Some f else entry_under q (with_entries fs t)) ≡ option_or (entry_under q (f ∷ fs)) (entry_under q t)
     go rest true e = rw e refl
     go rest false e = rw e rest
 

@@ -1,5 +1,6 @@
 -- How the table grows.
 use Rattle.std.specs.Prelude.{◌≡◌, ℕ, Bool, ◌||◌, nat_lt, List, [], ◌∷◌, map, drop, Option, Some, None, unwrap_or, slice_get, slice_index_or, if◌then◌else◌}
+use Rattle.std.specs.Option.{option_or}
 use Rattle.std.specs.Ordering.{is_lt}
 use Rattle.std.specs.Str.{bytes_eq}
 use Rattle.uc_base.specs.declared.hash.Hash.{Hash}
@@ -81,16 +82,11 @@ abbrev pub collision_with : Hash → List ℕ → Option Entry → Option Fault
 collision_with hash text None = None
 collision_with hash text (Some e) = if bytes_eq e.text text then None else Some (Collision hash e.text text)
 
--- the first, or else the second
-abbrev pub or_else : {A : Type 0} → Option A → Option A → Option A
-or_else (Some x) other = Some x
-or_else None other = other
-
 -- the first component whose text differs from a stored or earlier one of the same hash: the hash, the stored or earlier text, and its own
 abbrev pub collision_in : Digest → Table → List Checked → Option Fault
 collision_in digest table [] = None
 collision_in digest table (c ∷ new) =
-    or_else (collision_with (hash_of digest c) (text_of c.members) (entry_under (hash_of digest c) table)) (collision_in digest (with_component digest table c) new)
+    option_or (collision_with (hash_of digest c) (text_of c.members) (entry_under (hash_of digest c) table)) (collision_in digest (with_component digest table c) new)
 
 -- a table past a limit: 400,000 members, 67,108,864 bytes of canonical texts, 20,000,000 nodes of stored types
 abbrev pub is_past_limits : Table → Bool
@@ -99,4 +95,4 @@ is_past_limits table = nat_lt 400000 (member_count table) || (nat_lt 67108864 (b
 -- the refusal of new components: a collision, else a limit that would be passed
 abbrev pub store_fault : Digest → Table → List Checked → Option Fault
 store_fault digest table new =
-    or_else (collision_in digest table new) (if is_past_limits (with_components digest table new) then Some StoreFull else None)
+    option_or (collision_in digest table new) (if is_past_limits (with_components digest table new) then Some StoreFull else None)

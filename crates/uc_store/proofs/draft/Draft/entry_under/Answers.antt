@@ -1,5 +1,5 @@
 use Rattle.std.proofs.Common.{◌≡◌, Some, None, sym, ap, ◌∙◌}
-use Rattle.uc_store.specs.Growth.{or_else}
+use Rattle.std.specs.Option.{option_or}
 use Rattle.uc_store.specs.Places.{boxed}
 use Rattle.uc_store.specs.Table.{entry_under}
 use Rattle.uc_store.proofs.Tables.{under_entries, sorted_before}
@@ -12,10 +12,10 @@ pub returns-in-Some : goal.returns-in-Some
 returns-in-Some c =
     let first : entry_under c.args.hash.now (boxed c.args.self.now.fresh.items) ≡ Some c.in-Some.entry.now = rw (← c.deref.ensures.value) (sym c.in-Some.ensures) in
     sym (under_entries c.args.hash.now (boxed c.args.self.now.fresh.items) (boxed c.args.stored.now) c.requires.ordered
-    ∙ ap (λ o. or_else o (entry_under c.args.hash.now (boxed c.args.stored.now))) first)
+    ∙ ap (λ o. option_or o (entry_under c.args.hash.now (boxed c.args.stored.now))) first)
 
 pub returns-in-None : goal.returns-in-None
 returns-in-None c =
     let first : entry_under c.args.hash.now (boxed c.args.self.now.fresh.items) ≡ None = rw (← c.deref.ensures.value) (sym c.in-None.ensures) in
     c.entry_under-in-None.ensures ∙ sym (under_entries c.args.hash.now (boxed c.args.self.now.fresh.items) (boxed c.args.stored.now) c.requires.ordered
-    ∙ ap (λ o. or_else o (entry_under c.args.hash.now (boxed c.args.stored.now))) first)
+    ∙ ap (λ o. option_or o (entry_under c.args.hash.now (boxed c.args.stored.now))) first)
