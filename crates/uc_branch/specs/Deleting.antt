@@ -6,13 +6,17 @@ use Rattle.uc_base.specs.declared.fault.Fault.TheVariants.{NoSuchName, StillUsed
 use Rattle.uc_base.specs.declared.reference.Ref.{Ref}
 use Rattle.uc_base.specs.declared.reference.Ref.TheVariants.{Def, Ctor, Builtin}
 use Rattle.uc_tree.specs.Lookups.{Pairs}
-use Rattle.uc_branch.specs.Pairs.{is_same_name, names_of, without, has_some, lesser, least_name_of}
+use Rattle.uc_branch.specs.Pairs.{is_same_name, names_of, within, without, has_some, lesser, least_name_of}
 use Rattle.uc_branch.specs.Heads.{HeadPairs, has_name}
 use Rattle.uc_branch.specs.Moving.{is_below}
 
 -- the head without the names that pass a test
 abbrev pub head_outside : (List ℕ → Bool) → HeadPairs → HeadPairs
 head_outside goes head = record { kinds = without goes head.kinds; terms = without goes head.terms }
+
+-- the names of a head that pass a test
+abbrev pub head_within : (List ℕ → Bool) → HeadPairs → HeadPairs
+head_within goes head = record { kinds = within goes head.kinds; terms = within goes head.terms }
 
 -- the head without the type and the term of a name
 abbrev pub head_without : List ℕ → HeadPairs → HeadPairs

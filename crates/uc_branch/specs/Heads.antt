@@ -1,6 +1,7 @@
 -- Heads: the names of a branch, with what they stand for.
-use Rattle.std.specs.Prelude.{ℕ, ◌+◌, Bool, ◌||◌, ◌&&◌, List, [], ◌∷◌, Option, Some, None, length}
+use Rattle.std.specs.Prelude.{ℕ, ◌+◌, Bool, ◌||◌, ◌&&◌, List, [], ◌∷◌, Option, length}
 use Rattle.std.specs.Cmp.Lexicographic.{pointwise}
+use Rattle.std.specs.Option.{option_or}
 use Rattle.uc_base.specs.Builtin.{builtin_types, builtin_terms}
 use Rattle.uc_base.specs.declared.place.Sort.{Sort}
 use Rattle.uc_base.specs.declared.place.Sort.TheVariants as sort
@@ -46,14 +47,9 @@ name_count head = length head.kinds + length head.terms
 abbrev pub has_name : Ref → HeadPairs → Bool
 has_name r head = is_target r head.kinds || is_target r head.terms
 
--- a name, or else another
-abbrev pub or_name : Option (List ℕ) → Option (List ℕ) → Option (List ℕ)
-or_name (Some name) other = Some name
-or_name None other = other
-
 -- the least type name that stands for a reference, or else the least term name
 abbrev pub least_name : Ref → HeadPairs → Option (List ℕ)
-least_name r head = or_name (least_name_of (names_for r head.kinds)) (least_name_of (names_for r head.terms))
+least_name r head = option_or (least_name_of (names_for r head.kinds)) (least_name_of (names_for r head.terms))
 
 -- whether two references are the same
 abbrev pub equal_refs : Ref → Ref → Bool

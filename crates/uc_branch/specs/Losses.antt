@@ -4,6 +4,6 @@ use Rattle.uc_base.specs.declared.reference.Ref.{Ref}
 use Rattle.uc_branch.specs.declared.deleting.Loss.{Loss}
 use Rattle.uc_branch.specs.Reaches.{is_among}
 
--- whether a reference had a name before and has none after
+-- whether a reference has a name that goes and none that stays
 abbrev pub among_lost : Loss → Ref → Bool
-among_lost loss r = is_among r loss.before && not (is_among r loss.after)
+among_lost loss r = is_among r loss.gone && not (is_among r loss.kept)

@@ -47,6 +47,10 @@ put_all (p ∷ ps) pairs = put p.0 p.1 (put_all ps pairs)
 abbrev pub without : (List ℕ → Bool) → Pairs → Pairs
 without goes = filter (λ p. not (goes p.0))
 
+-- the pairs whose names pass a test
+abbrev pub within : (List ℕ → Bool) → Pairs → Pairs
+within goes = filter (λ p. goes p.0)
+
 -- whether some name passes a test
 abbrev pub has_some : (List ℕ → Bool) → Pairs → Bool
 has_some goes = list_any (λ p. goes p.0)

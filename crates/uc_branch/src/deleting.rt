@@ -5,7 +5,7 @@ ghost use Rattle.std.specs.Option.{option_copied};
 ghost use Rattle.uc_base.specs.declared.fault.Fault.TheVariants.{Memory};
 ghost use Rattle.uc_base.specs.declared.reference.Ref.{Ref as PlainRef};
 ghost use Rattle.uc_branch.specs.Pairs.{pair_name};
-ghost use Rattle.uc_branch.specs.Reaches.{reaches, is_among};
+ghost use Rattle.uc_branch.specs.Reaches.{reaches};
 ghost use Rattle.uc_branch.specs.Deleting as spec;
 ghost use Rattle.uc_branch.specs.Deleting.{head_outside, head_without, head_without_below, is_lost, uses_lost, removal_fault, delete_fault, delete_below_fault};
 
@@ -24,30 +24,30 @@ pub fn is_def(target: &Ref) -> bool
     matches!(target, Ref::Def(..))
 }
 
-/// What had a name before some names went, and what has one after.
+/// What has a name that goes, and which of that has a name that stays.
 #[derive(Drop)]
 struct Loss {
-    before: RefSet,
-    after: RefSet,
+    gone: RefSet,
+    kept: RefSet,
 }
 
 impl Loss {
     ghost use Rattle.uc_branch.specs.Losses.{among_lost};
 
-    fn new(alloc: Global, before: &Head, after: &Head) -> Result<Loss, AllocError>
+    fn new(alloc: Global, before: &Head, reach: &Reach, after: &Head) -> Result<Loss, AllocError>
+        requires { after.now ≡ head_outside (reaches reach.now) before.now }
         ensures { IfOk result (λ loss. (r : PlainRef) → among_lost loss r ≡ is_lost before.now after.now r) }
     {
-        Ok(Loss {
-            before: RefSet::of_head(alloc, before)?,
-            after: RefSet::of_head(alloc, after)?,
-        })
+        let gone = RefSet::of_taken(alloc, before, reach)?;
+        let kept = gone.named_in(alloc, after)?;
+        Ok(Loss { gone, kept })
     }
 
     /// Whether a reference is lost.
     fn has(&self, r: &Ref) -> bool
         ensures { result ≡ among_lost self.now r.now }
     {
-        self.before.contains(r) && !self.after.contains(r)
+        self.gone.contains(r) && !self.kept.contains(r)
     }
 
     /// Whether some of the references are lost.
@@ -87,7 +87,7 @@ impl Head {
             return Err(Fault::NoSuchName(name.copy(alloc)?));
         }
         let left = self.outside(alloc, reach)?;
-        let loss = Loss::new(alloc, self, &left)?;
+        let loss = Loss::new(alloc, self, reach, &left)?;
         let user = lesser(
             loss.first_user(left.kinds.as_slice(), known),
             loss.first_user(left.terms.as_slice(), known),
