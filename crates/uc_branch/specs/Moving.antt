@@ -5,7 +5,7 @@ use Rattle.uc_base.specs.Name.{is_name}
 use Rattle.uc_base.specs.declared.fault.Fault.{Fault}
 use Rattle.uc_base.specs.declared.fault.Fault.TheVariants.{SameName, NoSuchName, BadName, NameTaken}
 use Rattle.uc_tree.specs.Lookups.{Pairs, begins_with}
-use Rattle.uc_branch.specs.Pairs.{is_same_name, names_of, has_pair, put_all, without, has_some, lesser, least_name_of}
+use Rattle.uc_branch.specs.Pairs.{is_same_name, names_of, has_pair, put_all, within, without, has_some, lesser, least_name_of}
 use Rattle.uc_branch.specs.Heads.{HeadPairs}
 
 -- whether a name stands below another: that name and a dot stand before the rest
@@ -22,7 +22,7 @@ renamed from to name = to ++ drop (length from) name
 
 -- the pairs that move, under their new names
 abbrev pub renamed_pairs : List ℕ → List ℕ → Pairs → Pairs
-renamed_pairs from to pairs = map (λ p. (renamed from to p.0, p.1)) (filter (λ p. is_moved from p.0) pairs)
+renamed_pairs from to pairs = map (λ p. (renamed from to p.0, p.1)) (within (is_moved from) pairs)
 
 -- the pairs that stay, and among them those that move under their new names
 abbrev pub moved_pairs : List ℕ → List ℕ → Pairs → Pairs
