@@ -1,0 +1,8 @@
+pub mod CandidateSteps
+pub mod HeadSteps
+pub mod Inserted
+pub mod LiteralTexts
+pub mod Names
+pub mod UsingSteps
+pub mod EntrySteps
+pub mod MeaningSteps

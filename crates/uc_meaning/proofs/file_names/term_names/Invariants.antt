@@ -1,0 +1,8 @@
+use Rattle.std.proofs.Common.{◌≡◌, ◌++◌, drop}
+use Rattle.uc_scratch.specs.FileViews.{items_of}
+use Rattle.uc_meaning.specs.EntryViews.{entries_of}
+use Rattle.uc_meaning.specs.FileNames.{term_entries}
+use Rattle.uc_meaning.proofs.file_names.term_names.Given as goal
+
+abbrev pub invariant-loop-item : goal.invariant-loop-item
+invariant-loop-item l = entries_of l.names.items ++ term_entries l.counts.kinds l.counts.terms (items_of (drop l.item-index l.items)) ≡ term_entries 0 0 (items_of l.items)

@@ -1,0 +1,16 @@
+pub mod Candidates
+pub mod Entries
+pub mod EntryViews
+pub mod ExprMeanings
+pub mod FileNames
+pub mod HeadNames
+pub mod Hints
+pub mod Literals
+pub mod Meanings
+pub mod OneName
+pub mod PatternMeanings
+pub mod Placed
+pub mod Programs
+pub mod Results
+pub mod TypeMeanings
+pub mod UsingViews
