@@ -1,0 +1,17 @@
+pub mod Applying
+pub mod Contexts
+pub mod Counts
+pub mod Entries
+pub mod Fresh
+pub mod Index
+pub mod Indexes
+pub mod Kept
+pub mod Looking
+pub mod Numbers
+pub mod OpenCodes
+pub mod OpenFalls
+pub mod OpenViews
+pub mod Opens
+pub mod Solvable
+pub mod Solving
+pub mod Variables

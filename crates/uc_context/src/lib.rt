@@ -1,0 +1,23 @@
+//! Typing contexts: ordered lists of variables with what stands for them.
+#![tactic(auto)]
+
+mod applying;
+mod context;
+mod copying;
+mod counting;
+mod entry;
+mod equality;
+mod index;
+mod looking;
+mod numbers;
+mod open;
+mod places;
+mod solving;
+mod variables;
+
+pub use context::Context;
+pub use copying::copy_opens;
+pub use counting::{TYPE_LEVEL_LIMIT, TYPE_NODE_LIMIT, is_small, open_levels, open_nodes};
+pub use entry::{Entry, same_entry};
+pub use equality::same_open;
+pub use open::{Open, OpenNode};
