@@ -109,12 +109,6 @@ fn reads_nothing_else(rt: HostRuntime) -> Result<(), Fail> {
     let upper = POINT.to_ascii_uppercase(alloc)?;
     let link = format!(in alloc; "T1;-rh{upper}0;")?;
     assert!(rt; read_spelled(alloc, link.as_bytes())?.is_none());
-    Ok(())
-}
-
-#[test]
-fn reads_no_more_levels(rt: HostRuntime) -> Result<(), Fail> {
-    let alloc = rt.alloc();
     assert!(rt; read_spelled(alloc, nested(alloc, 512)?.as_slice())?.is_none());
     assert!(rt; read_spelled(alloc, nested(alloc, 1_000_000)?.as_slice())?.is_none());
     assert!(rt; read_spelled(alloc, fields(alloc, 512)?.as_slice())?.is_none());

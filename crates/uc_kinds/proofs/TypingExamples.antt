@@ -34,14 +34,14 @@ at_literal : (known : Known) (scope : Scope) (n : ℕ) → known.arity (Stored (
 at_literal known scope n e l h f =
     by_subtype (builtin_type n)
     (of_application (quantified (arrow (bound 0) (bound 0))) f
-        (at_monotype (builtin_type n) (mono_applied e no_mono) (at_argument (by_subtype (builtin_type n) h (reflexive known scope.rigids n)))))
+    (at_monotype (builtin_type n) (mono_applied e no_mono) (at_argument (by_subtype (builtin_type n) h (reflexive known scope.rigids n)))))
     (reflexive known scope.rigids n)
 
 pub higher_rank : HigherRankHasItsType
 higher_rank known n c =
     let scope : Scope = under (quantified (arrow (bound 0) (bound 0))) no_scope in
     with_signature (at_rest refl (by_lambda (by_tuple (have_more (at_literal known scope 0 n (literals.Nat 1) of_literal (of_variable refl))
-        (have_more (at_literal known scope 4 c (literals.Char 97) of_literal (of_variable refl)) have_none)))))
+    (have_more (at_literal known scope 4 c (literals.Char 97) of_literal (of_variable refl)) have_none)))))
 
 -- the unit type isn't below a rigid variable
 not_rigid : (known : Known) (xs : List ℕ) (x : ℕ) → IsSubtype known.arity xs unit (rigid x) → ⊥

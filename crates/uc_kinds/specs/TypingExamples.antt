@@ -40,4 +40,4 @@ HigherRankHasItsType = (known : Known) → known.arity (Stored (Builtin 0)) ≡ 
 abbrev pub UnitIsNotEverything : Type 0
 UnitIsNotEverything = (known : Known)
     → DefinitionHasType known (record { signature = Some (types.arrow types.unit (types.quantified (types.variable 0))); body = terms.lambda (terms.variable 0) })
-        (types.arrow types.unit (types.quantified (types.variable 0))) → ⊥
+    (types.arrow types.unit (types.quantified (types.variable 0))) → ⊥

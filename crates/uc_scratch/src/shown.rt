@@ -1,23 +1,52 @@
 //! Written types and patterns as short texts, for tests. A name has its place behind it, the name of
 //! a constructor or of a declared type a `!` before it, and an operand with arguments `<` and `>`
 //! round it.
+ghost use Rattle.std.specs.Prelude.{◌≡◌, true, IsTrue};
+ghost use Rattle.uc_scratch.specs.Nesting.{fits};
 
+use crate::front::first;
 use crate::pattern::{Pattern, PatternAtom, PatternForm, PatternOperand};
+use crate::terminal::Terminal;
 use crate::type_expr::{TypeAtom, TypeExpr, TypeFront, TypeOperand};
 use crate::written::{Con, Literal, LiteralSort, Reference, Written};
 use std::test::Fail;
 use uc_base::Place;
 
-fn write_place(out: &mut Vec<u8>, place: Place) -> Result<(), Fail> {
+/// Whether so many levels are enough.
+pub fn levels_fit(most: u32, tokens: &[Terminal]) -> bool
+    ensures { IsTrue result → fits most tokens.now ≡ true }
+{
+    let mut left = most;
+    let mut rest = tokens;
+    'levels: loop {
+        match first(rest) {
+            None => return true,
+            Some((token, after)) => {
+                match token {
+                    Terminal::Left(_) | Terminal::LeftSquare(_) | Terminal::Opens => {
+                        if left == 0 {
+                            return false;
+                        }
+                        left -= 1;
+                    }
+                    Terminal::Right | Terminal::RightSquare | Terminal::Closes => {
+                        if left == u32::MAX {
+                            return false;
+                        }
+                        left += 1;
+                    }
+                    _ => {}
+                }
+                rest = after;
+            }
+        }
+    }
+}
+
+pub fn write_place(out: &mut Vec<u8>, place: Place) -> Result<(), Fail> {
     out.push(b'@')?;
     place.write_text(out)?;
     Ok(())
-}
-
-/// A mark or a word with its place behind it.
-pub fn write_placed(out: &mut Vec<u8>, text: &[u8], place: Place) -> Result<(), Fail> {
-    out.extend_from_slice(text)?;
-    write_place(out, place)
 }
 
 pub fn write_name(out: &mut Vec<u8>, name: &Written) -> Result<(), Fail> {
@@ -60,7 +89,8 @@ pub fn write_type(depth: u32, of: &TypeExpr, out: &mut Vec<u8>) -> Result<(), Fa
     for front in &of.fronts {
         match front {
             TypeFront::Forall(place, variables) => {
-                write_placed(out, b"forall", *place)?;
+                out.extend_from_slice(b"forall")?;
+                write_place(out, *place)?;
                 for variable in variables {
                     out.push(b' ')?;
                     write_name(out, variable)?;
@@ -108,21 +138,27 @@ pub fn write_type_atom(depth: u32, atom: &TypeAtom, out: &mut Vec<u8>) -> Result
     match atom {
         TypeAtom::Variable(w) => write_name(out, w),
         TypeAtom::Con(con) => write_con(out, con),
-        TypeAtom::Unit(place) => write_placed(out, b"()", *place),
+        TypeAtom::Unit(place) => {
+            out.extend_from_slice(b"()")?;
+            write_place(out, *place)
+        }
         TypeAtom::Group(place, of) => {
             out.push(b'(')?;
             write_type(inside, of, out)?;
-            write_placed(out, b")", *place)
+            out.push(b')')?;
+            write_place(out, *place)
         }
         TypeAtom::Tuple(place, types) => {
             out.push(b'(')?;
             write_types(inside, types, out)?;
-            write_placed(out, b")", *place)
+            out.push(b')')?;
+            write_place(out, *place)
         }
         TypeAtom::List(place, of) => {
             out.push(b'[')?;
             write_type(inside, of, out)?;
-            write_placed(out, b"]", *place)
+            out.push(b']')?;
+            write_place(out, *place)
         }
     }
 }
@@ -185,25 +221,34 @@ fn write_pattern_atom(depth: u32, atom: &PatternAtom, out: &mut Vec<u8>) -> Resu
 fn write_pattern_form(depth: u32, form: &PatternForm, out: &mut Vec<u8>) -> Result<(), Fail> {
     let inside = depth.checked_sub(1).ok_or("too deep")?;
     match form {
-        PatternForm::Any(place) => write_placed(out, b"_", *place),
+        PatternForm::Any(place) => {
+            out.push(b'_')?;
+            write_place(out, *place)
+        }
         PatternForm::Variable(w) => write_name(out, w),
         PatternForm::Literal(literal) => write_literal(out, literal),
         PatternForm::Con(con) => write_con(out, con),
-        PatternForm::Unit(place) => write_placed(out, b"()", *place),
+        PatternForm::Unit(place) => {
+            out.extend_from_slice(b"()")?;
+            write_place(out, *place)
+        }
         PatternForm::Group(place, pattern) => {
             out.push(b'(')?;
             write_pattern(inside, pattern, out)?;
-            write_placed(out, b")", *place)
+            out.push(b')')?;
+            write_place(out, *place)
         }
         PatternForm::Tuple(place, patterns) => {
             out.push(b'(')?;
             write_patterns(inside, patterns, out)?;
-            write_placed(out, b")", *place)
+            out.push(b')')?;
+            write_place(out, *place)
         }
         PatternForm::List(place, patterns) => {
             out.push(b'[')?;
             write_patterns(inside, patterns, out)?;
-            write_placed(out, b"]", *place)
+            out.push(b']')?;
+            write_place(out, *place)
         }
     }
 }

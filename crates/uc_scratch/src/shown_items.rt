@@ -4,7 +4,7 @@ use crate::block::{Binding, BindingFront, Block, Case, Entry, Signature, Use};
 use crate::expr::{Atom, Expr, Step};
 use crate::file::{Constructor, Declaration, DeclarationSort, Item};
 use crate::shown::{
-    write_between, write_literal, write_name, write_pattern, write_placed, write_type,
+    write_between, write_literal, write_name, write_pattern, write_place, write_type,
     write_type_atom,
 };
 use crate::written::{Head, Param, Reference, Written};
@@ -21,7 +21,10 @@ fn write_names(out: &mut Vec<u8>, names: &[Written]) -> Result<(), Fail> {
 fn write_param(out: &mut Vec<u8>, param: &Param) -> Result<(), Fail> {
     match param {
         Param::Name(w) => write_name(out, w),
-        Param::Any(place) => write_placed(out, b"_", *place),
+        Param::Any(place) => {
+            out.push(b'_')?;
+            write_place(out, *place)
+        }
     }
 }
 
@@ -39,7 +42,8 @@ fn write_head(out: &mut Vec<u8>, head: &Head) -> Result<(), Fail> {
         Head::Bracketed(place, w) => {
             out.push(b'(')?;
             write_name(out, w)?;
-            write_placed(out, b")", *place)
+            out.push(b')')?;
+            write_place(out, *place)
         }
     }
 }
@@ -61,7 +65,8 @@ fn write_front(out: &mut Vec<u8>, front: &BindingFront) -> Result<(), Fail> {
 }
 
 fn write_use(out: &mut Vec<u8>, of: &Use) -> Result<(), Fail> {
-    write_placed(out, b"use", of.place)?;
+    out.extend_from_slice(b"use")?;
+    write_place(out, of.place)?;
     out.push(b' ')?;
     write_name(out, &of.path)?;
     write_names(out, &of.names)
@@ -98,8 +103,14 @@ fn write_step(depth: u32, step: &Step, out: &mut Vec<u8>) -> Result<(), Fail> {
         Step::Operator(w) => write_name(out, w),
         Step::And => Ok(out.extend_from_slice(b"&&")?),
         Step::Or => Ok(out.extend_from_slice(b"||")?),
-        Step::If(place) => write_placed(out, b"if", *place),
-        Step::Match(place) => write_placed(out, b"match", *place),
+        Step::If(place) => {
+            out.extend_from_slice(b"if")?;
+            write_place(out, *place)
+        }
+        Step::Match(place) => {
+            out.extend_from_slice(b"match")?;
+            write_place(out, *place)
+        }
         Step::Then(consequent, alternative) => {
             out.extend_from_slice(b"then ")?;
             write_block(depth, consequent, out)?;
@@ -111,12 +122,14 @@ fn write_step(depth: u32, step: &Step, out: &mut Vec<u8>) -> Result<(), Fail> {
             write_cases(depth, cases, out)
         }
         Step::Cases(place, cases) => {
-            write_placed(out, b"cases", *place)?;
+            out.extend_from_slice(b"cases")?;
+            write_place(out, *place)?;
             out.push(b' ')?;
             write_cases(depth, cases, out)
         }
         Step::Let(place, block) => {
-            write_placed(out, b"let", *place)?;
+            out.extend_from_slice(b"let")?;
+            write_place(out, *place)?;
             out.push(b' ')?;
             write_block(depth, block, out)
         }
@@ -143,30 +156,38 @@ fn write_atom(depth: u32, atom: &Atom, out: &mut Vec<u8>) -> Result<(), Fail> {
         Atom::Operator(place, w) => {
             out.push(b'(')?;
             write_name(out, w)?;
-            write_placed(out, b")", *place)
+            out.push(b')')?;
+            write_place(out, *place)
         }
-        Atom::Unit(place) => write_placed(out, b"()", *place),
+        Atom::Unit(place) => {
+            out.extend_from_slice(b"()")?;
+            write_place(out, *place)
+        }
         Atom::Group(place, expr) => {
             out.push(b'(')?;
             write_expr(inside, expr, out)?;
-            write_placed(out, b")", *place)
+            out.push(b')')?;
+            write_place(out, *place)
         }
         Atom::Annotated(place, expr, of) => {
             out.push(b'(')?;
             write_expr(inside, expr, out)?;
             out.extend_from_slice(b" : ")?;
             write_type(depth, of, out)?;
-            write_placed(out, b")", *place)
+            out.push(b')')?;
+            write_place(out, *place)
         }
         Atom::Tuple(place, exprs) => {
             out.push(b'(')?;
             write_exprs(inside, exprs, out)?;
-            write_placed(out, b")", *place)
+            out.push(b')')?;
+            write_place(out, *place)
         }
         Atom::List(place, exprs) => {
             out.push(b'[')?;
             write_exprs(inside, exprs, out)?;
-            write_placed(out, b"]", *place)
+            out.push(b']')?;
+            write_place(out, *place)
         }
     }
 }
@@ -222,11 +243,21 @@ fn write_binding(depth: u32, binding: &Binding, out: &mut Vec<u8>) -> Result<(),
 
 fn write_sort(out: &mut Vec<u8>, sort: &DeclarationSort) -> Result<(), Fail> {
     match sort {
-        DeclarationSort::Plain(place) => write_placed(out, b"type", *place),
-        DeclarationSort::Structural(place) => write_placed(out, b"structural", *place),
-        DeclarationSort::Unique(place) => write_placed(out, b"unique", *place),
+        DeclarationSort::Plain(place) => {
+            out.extend_from_slice(b"type")?;
+            write_place(out, *place)
+        }
+        DeclarationSort::Structural(place) => {
+            out.extend_from_slice(b"structural")?;
+            write_place(out, *place)
+        }
+        DeclarationSort::Unique(place) => {
+            out.extend_from_slice(b"unique")?;
+            write_place(out, *place)
+        }
         DeclarationSort::Tagged(place, tag) => {
-            write_placed(out, b"unique", *place)?;
+            out.extend_from_slice(b"unique")?;
+            write_place(out, *place)?;
             out.extend_from_slice(b" [")?;
             write_name(out, tag)?;
             out.push(b']')?;
@@ -267,7 +298,8 @@ pub fn write_item(depth: u32, item: &Item, out: &mut Vec<u8>) -> Result<(), Fail
         Item::Signature(signature) => write_signature(depth, signature, out),
         Item::Binding(binding) => write_binding(depth, binding, out),
         Item::Watch(watch) => {
-            write_placed(out, b">", watch.place)?;
+            out.push(b'>')?;
+            write_place(out, watch.place)?;
             out.push(b' ')?;
             write_expr(depth, &watch.of, out)
         }

@@ -1,7 +1,7 @@
 //! Items as they are read.
 
 use crate::read_items::read_item;
-use crate::rooms::fits;
+use crate::shown::levels_fit;
 use crate::shown_items::write_item;
 use crate::stop::Stop;
 use crate::terminal::terminals;
@@ -14,7 +14,7 @@ use uc_layout::lex;
 fn shown(rt: &impl Abort, alloc: Global, text: &[u8]) -> Result<String, Fail> {
     let blocks = lex(alloc, text)?;
     let tokens = terminals(alloc, blocks.tokens())?;
-    assert!(rt; fits(128, tokens.as_slice()));
+    assert!(rt; levels_fit(128, tokens.as_slice()));
     let mut out = Vec::new(alloc);
     match read_item(alloc, tokens.as_slice()) {
         Err(Stop::Memory) => return Err("no memory".into()),
@@ -24,15 +24,8 @@ fn shown(rt: &impl Abort, alloc: Global, text: &[u8]) -> Result<String, Fail> {
     Ok(String::from_utf8(out)?)
 }
 
-/// Holds where a text is such an item.
-fn reads(rt: &impl Abort, alloc: Global, text: &str, wanted: &str) -> Result<(), Fail> {
-    let found = shown(rt, alloc, text.as_bytes())?;
-    assert_eq!(rt; found.as_str(), wanted, "{text}");
-    Ok(())
-}
-
 #[test]
-fn reads_uses_and_declarations(rt: HostRuntime) -> Result<(), Fail> {
+fn reads_items(rt: HostRuntime) -> Result<(), Fail> {
     for (text, wanted) in [
         ("use a.b", "use@1:1 a.b@1:5"),
         ("use A x Y + >", "use@1:1 A@1:5 x@1:7 Y@1:9 +@1:11 >@1:13"),
@@ -49,15 +42,6 @@ fn reads_uses_and_declarations(rt: HostRuntime) -> Result<(), Fail> {
             "unique[x.y] type T u v = K [u] #00000000 v",
             "unique@1:1 [x.y@1:8] T@1:18 u@1:20 v@1:22 = K@1:26 [u@1:29]@1:28 !#00000000@1:32 v@1:42",
         ),
-    ] {
-        reads(&rt, rt.alloc(), text, wanted)?;
-    }
-    Ok(())
-}
-
-#[test]
-fn reads_signatures_and_bindings(rt: HostRuntime) -> Result<(), Fail> {
-    for (text, wanted) in [
         ("x : Nat", "x@1:1 : !Nat@1:5"),
         ("a.B : c -> d", "a.B@1:1 : c@1:7 -> d@1:12"),
         ("(+) : a", "(+@1:2)@1:1 : a@1:7"),
@@ -69,15 +53,6 @@ fn reads_signatures_and_bindings(rt: HostRuntime) -> Result<(), Fail> {
         ("(Nat.+) a = a", "(Nat.+@1:2)@1:1 a@1:9 = {a@1:13}"),
         ("a <> _ = a", "a@1:1 <>@1:3 _@1:6 = {a@1:10}"),
         ("A List.++ b = A", "A@1:1 List.++@1:3 b@1:11 = {A@1:15}"),
-    ] {
-        reads(&rt, rt.alloc(), text, wanted)?;
-    }
-    Ok(())
-}
-
-#[test]
-fn reads_watches_and_blocks(rt: HostRuntime) -> Result<(), Fail> {
-    for (text, wanted) in [
         ("> x", ">@1:1 x@1:3"),
         ("> f 1 + 2", ">@1:1 f@1:3 N1@1:5 +@1:7 N2@1:9"),
         (
@@ -86,13 +61,17 @@ fn reads_watches_and_blocks(rt: HostRuntime) -> Result<(), Fail> {
              a@5:3 +@5:5 b@5:7 = {a@5:11}; (+@6:4)@6:3 c@6:7 = {c@6:11}; f@7:3}",
         ),
     ] {
-        reads(&rt, rt.alloc(), text, wanted)?;
+        assert_eq!(rt;
+            shown(&rt, rt.alloc(), text.as_bytes())?.as_str(),
+            wanted,
+            "{text}"
+        );
     }
     Ok(())
 }
 
 #[test]
-fn reads_operators_and_lambdas(rt: HostRuntime) -> Result<(), Fail> {
+fn reads_expressions(rt: HostRuntime) -> Result<(), Fail> {
     for (text, wanted) in [
         ("> x _ -> x", ">@1:1 \\ x@1:3 _@1:5 -> {x@1:10}"),
         (
@@ -103,15 +82,6 @@ fn reads_operators_and_lambdas(rt: HostRuntime) -> Result<(), Fail> {
             "> a +: b :+ c > d Nat.+ e",
             ">@1:1 a@1:3 +:@1:5 b@1:8 :+@1:10 c@1:13 >@1:15 d@1:17 Nat.+@1:19 e@1:25",
         ),
-    ] {
-        reads(&rt, rt.alloc(), text, wanted)?;
-    }
-    Ok(())
-}
-
-#[test]
-fn reads_conditionals_cases_and_lets(rt: HostRuntime) -> Result<(), Fail> {
-    for (text, wanted) in [
         (
             "> if a then b else c",
             ">@1:1 if@1:3 a@1:6 then {b@1:13} else {c@1:20}",
@@ -141,15 +111,6 @@ fn reads_conditionals_cases_and_lets(rt: HostRuntime) -> Result<(), Fail> {
             "> if match a with b -> c then d else e",
             ">@1:1 if@1:3 match@1:6 a@1:12 with {b@1:19 -> {c@1:24}} then {d@1:31} else {e@1:38}",
         ),
-    ] {
-        reads(&rt, rt.alloc(), text, wanted)?;
-    }
-    Ok(())
-}
-
-#[test]
-fn reads_operands(rt: HostRuntime) -> Result<(), Fail> {
-    for (text, wanted) in [
         ("> a B c.d", ">@1:1 a@1:3 B@1:5 c.d@1:7"),
         (
             "> (+) (>) (Nat.+)",
@@ -166,13 +127,17 @@ fn reads_operands(rt: HostRuntime) -> Result<(), Fail> {
              []@1:28 [a@1:32]@1:31 [a@1:36, b@1:39]@1:35",
         ),
     ] {
-        reads(&rt, rt.alloc(), text, wanted)?;
+        assert_eq!(rt;
+            shown(&rt, rt.alloc(), text.as_bytes())?.as_str(),
+            wanted,
+            "{text}"
+        );
     }
     Ok(())
 }
 
 #[test]
-fn refuses_uses_and_declarations(rt: HostRuntime) -> Result<(), Fail> {
+fn refuses_items(rt: HostRuntime) -> Result<(), Fail> {
     for text in [
         "use",
         "use +",
@@ -191,15 +156,6 @@ fn refuses_uses_and_declarations(rt: HostRuntime) -> Result<(), Fail> {
         "unique[+] type A = b",
         "unique[a type A = b",
         "unique[a] A = b",
-    ] {
-        reads(&rt, rt.alloc(), text, "-")?;
-    }
-    Ok(())
-}
-
-#[test]
-fn refuses_signatures_bindings_and_watches(rt: HostRuntime) -> Result<(), Fail> {
-    for text in [
         "x",
         "x :",
         "x : a b",
@@ -214,7 +170,11 @@ fn refuses_signatures_bindings_and_watches(rt: HostRuntime) -> Result<(), Fail> 
         "> a b : T",
         "> a = b",
     ] {
-        reads(&rt, rt.alloc(), text, "-")?;
+        assert_eq!(rt;
+            shown(&rt, rt.alloc(), text.as_bytes())?.as_str(),
+            "-",
+            "{text}"
+        );
     }
     Ok(())
 }
@@ -250,7 +210,11 @@ fn refuses_expressions(rt: HostRuntime) -> Result<(), Fail> {
         "> let\n  > x\n  x",
         "> let\n  x\n  y",
     ] {
-        reads(&rt, rt.alloc(), text, "-")?;
+        assert_eq!(rt;
+            shown(&rt, rt.alloc(), text.as_bytes())?.as_str(),
+            "-",
+            "{text}"
+        );
     }
     Ok(())
 }

@@ -1,8 +1,7 @@
 //! Patterns as they are read.
 
 use crate::read_patterns::read_pattern;
-use crate::rooms::fits;
-use crate::shown::write_pattern;
+use crate::shown::{levels_fit, write_pattern};
 use crate::stop::Stop;
 use crate::terminal::{Terminal, terminals};
 use std::alloc::Global;
@@ -18,7 +17,7 @@ fn shown(rt: &impl Abort, alloc: Global, text: &str) -> Result<String, Fail> {
         [Terminal::Item(_), pattern @ ..] => pattern,
         other => other,
     };
-    assert!(rt; fits(9, pattern));
+    assert!(rt; levels_fit(9, pattern));
     let mut out = Vec::new(alloc);
     match read_pattern(alloc, 9, pattern) {
         Err(Stop::Memory) => return Err("no memory".into()),

@@ -1,8 +1,7 @@
 //! Types as they are read.
 
 use crate::read_types::read_type;
-use crate::rooms::fits;
-use crate::shown::write_type;
+use crate::shown::{levels_fit, write_type};
 use crate::stop::Stop;
 use crate::terminal::{Terminal, terminals};
 use std::alloc::Global;
@@ -18,7 +17,7 @@ fn shown(rt: &impl Abort, alloc: Global, text: &str) -> Result<String, Fail> {
         [Terminal::Item(_), Terminal::Colon, of @ ..] => of,
         _ => return Err("no colon".into()),
     };
-    assert!(rt; fits(9, of));
+    assert!(rt; levels_fit(9, of));
     let mut out = Vec::new(alloc);
     match read_type(alloc, 9, of) {
         Err(Stop::Memory) => return Err("no memory".into()),
