@@ -1,8 +1,12 @@
 pub mod Building
+pub mod Closed
+pub mod Declared
 pub mod Dropping
 pub mod Exchanging
 pub mod Following
+pub mod FoundInOrder
 pub mod FreshNumbers
+pub mod Generalised
 pub mod LastPlaces
 pub mod Looked
 pub mod Noting
@@ -17,3 +21,4 @@ pub mod SolvedWith
 pub mod Standing
 pub mod Tournament
 pub mod Under
+pub mod Unsolved

@@ -82,7 +82,7 @@ module _ (x : ℕ) (es : ContextEntries) where
   solution_nowhere none = sym (solution_without x es (last_place-some (is_variable x) es ∙ ap is_some none))
 
 -- what stands before a variable
-before_without : (x : ℕ) (es : ContextEntries) → list_any (is_variable x) es ≡ false → before x es ≡ es
+pub before_without : (x : ℕ) (es : ContextEntries) → list_any (is_variable x) es ≡ false → before x es ≡ es
 before_without x [] none = refl
 before_without x (e ∷ es) none = let p = or_parts (is_variable x e) (list_any (is_variable x) es) none in rw p.0 (ap (λ (cs : ContextEntries). e ∷ cs) (before_without x es p.1))
 

@@ -21,7 +21,7 @@ use Rattle.uc_context.proofs.Standing.{Stands, stands_at}
 use Rattle.uc_context.proofs.Under.{under-append, under-unsolved, under-settled}
 
 -- a declared existential is a variable
-declared_variable : (x : ℕ) (es : ContextEntries) → list_any (declares x) es ≡ true → list_any (is_variable x) es ≡ true
+pub declared_variable : (x : ℕ) (es : ContextEntries) → list_any (declares x) es ≡ true → list_any (is_variable x) es ≡ true
 declared_variable x [] d = d
 declared_variable x (e ∷ es) d = go (declared_variable x es) (declares x e) refl d
   where

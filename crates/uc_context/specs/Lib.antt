@@ -1,13 +1,16 @@
 pub mod Applying
+pub mod Closing
 pub mod Contexts
 pub mod Counts
 pub mod Entries
 pub mod Fresh
+pub mod Generalising
 pub mod Index
 pub mod Indexes
 pub mod Kept
 pub mod Looking
 pub mod Numbers
+pub mod Occurring
 pub mod OpenCodes
 pub mod OpenFalls
 pub mod OpenViews

@@ -1,11 +1,12 @@
 //! Types with solutions put in.
-ghost use Rattle.std.specs.Prelude.{◌≡◌, ◌⊎◌, IfOk, IfErr};
+ghost use Rattle.std.specs.Prelude.{◌≡◌, ℕ, ◌⊎◌, true, None, IfOk, IfErr};
 ghost use Rattle.std.specs.Option.{option_copied};
 ghost use Rattle.uc_base.specs.declared.fault.Fault.TheVariants.{Memory, TypeTooLarge};
 ghost use Rattle.uc_base.specs.declared.place.At.TheVariants.{Nowhere};
-ghost use Rattle.uc_context.specs.Contexts.{type_under, types_under};
+ghost use Rattle.uc_context.specs.Contexts.{type_under, types_under, solution_of};
 ghost use Rattle.uc_context.specs.Counts.{IsSmall};
 ghost use Rattle.uc_context.specs.Opens.{opens_of};
+ghost use Rattle.uc_context.specs.Variables.{mentions};
 ghost use Rattle.uc_context.specs.Applying.{front_solution, IsSettled, IsWithin, IsPast, AreWithin, ArePast};
 
 use crate::context::Context;
@@ -92,10 +93,13 @@ impl Context {
     }
 
     /// A type with the solutions put in until none is left.
+    #[tactic(auto, using(crate::proofs::Unsolved::unsolved))]
     pub fn apply(&self, alloc: Global, of: &Open) -> Result<Open, Fault>
         ensures ok { IfOk result (λ t. (t ≡ type_under self.now of.now) × IsSmall t) }
+        ensures unsolved { IfOk result (λ t. (x : ℕ) → mentions x t ≡ true → solution_of self.now x ≡ None) }
         ensures err { IfErr result (λ fault. (fault ≡ Memory) ⊎ ((fault ≡ TypeTooLarge Nowhere) × ¬ IsSmall (type_under self.now of.now))) }
     {
+        self.tell_in_order();
         let mut room = TYPE_NODE_LIMIT;
         self.build(alloc, of, TYPE_LEVEL_LIMIT, &mut room)
     }

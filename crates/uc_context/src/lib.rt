@@ -2,17 +2,22 @@
 #![tactic(auto)]
 
 mod applying;
+mod closing;
 mod context;
 mod copying;
 mod counting;
 mod entry;
 mod equality;
+mod generalising;
 mod index;
 mod looking;
 mod numbers;
+mod occurring;
 mod open;
 mod places;
 mod solving;
+#[cfg(test)]
+mod tests;
 mod variables;
 
 pub use context::Context;

@@ -1,5 +1,6 @@
 //! Variables in types.
-ghost use Rattle.std.specs.Prelude.{◌≡◌, ◌+◌, ◌<◌, ◌^◌, IfOk, take};
+ghost use Rattle.std.specs.Prelude.{◌≡◌, ◌+◌, ◌<◌, ◌^◌, IfOk, IsTrue, take};
+ghost use Rattle.uc_context.specs.Contexts.{AreDeclaredBefore};
 ghost use Rattle.uc_context.specs.Counts.{levels_of_open, levels_of_opens};
 ghost use Rattle.uc_context.specs.Opens.{opens_of};
 ghost use Rattle.uc_context.specs.Solvable as spec;
@@ -150,8 +151,10 @@ impl Context {
     }
 
     /// Whether a type is a monotype whose variables all stand before an existential.
+    #[tactic(auto, using(crate::proofs::Declared::variables_declared))]
     pub fn can_solve(&self, which: u64, with: &Open) -> bool
-        ensures { result ≡ spec.can_solve self.now which with.now }
+        ensures value { result ≡ spec.can_solve self.now which with.now }
+        ensures declared { IsTrue result → AreDeclaredBefore self.now with.now which }
     {
         with.is_monotype() && self.has_variables(self.count_before(which), with)
     }

@@ -6,3 +6,8 @@ pub mod Names
 pub mod UsingSteps
 pub mod EntrySteps
 pub mod MeaningSteps
+mod WantedSenses
+pub mod WordSteps
+pub mod SenseSteps
+pub mod Unhidden
+pub mod SuffixSteps

@@ -25,7 +25,7 @@ use Rattle.uc_meaning.specs.Candidates.{Usings, behind_using}
 use Rattle.uc_meaning.specs.Meanings.{Known, name_meaning, reference_meaning}
 use Rattle.uc_meaning.specs.Literals.{literal_value}
 use Rattle.uc_meaning.specs.Placed.{Placed, first_place}
-use Rattle.uc_meaning.specs.TypeMeanings.{signature_meaning, variables_under}
+use Rattle.uc_meaning.specs.TypeMeanings.{signature_meaning, front_of_signature}
 use Rattle.uc_meaning.specs.PatternMeanings.{pattern_meaning}
 
 -- what is in scope: the local binders, the innermost first, of which some have no name; the type variables, the innermost first; the `use` clauses
@@ -139,52 +139,52 @@ no_parts = record { ors = None; ands = None; half = None; atoms = None }
 abbrev pub nothing : Placed Term
 nothing = (trees.unit, first_place [] ∷ [])
 
-abbrev pub or_nothing : Option (Placed Term) → Placed Term
+unfoldable pub or_nothing : Option (Placed Term) → Placed Term
 or_nothing None = nothing
 or_nothing (Some t) = t
 
 -- what stands before a part, where there is something, applied to it
-abbrev pub applied_if : Option (Placed Term) → Placed Term → Placed Term
+unfoldable pub applied_if : Option (Placed Term) → Placed Term → Placed Term
 applied_if None a = a
 applied_if (Some f) a = applied f a
 
 -- the same with an operator and its left side
-abbrev pub finished_if : Option (Placed Term) → Placed Term → Placed Term
+unfoldable pub finished_if : Option (Placed Term) → Placed Term → Placed Term
 finished_if None b = b
 finished_if (Some half) b = operator_finished (first_place half.1) half b
 
 -- and with the left side of `&&` and of `||`
-abbrev pub and_if : Option (Placed Term) → Placed Term → Placed Term
+unfoldable pub and_if : Option (Placed Term) → Placed Term → Placed Term
 and_if None b = b
 and_if (Some a) b = and_over a b
 
-abbrev pub or_if : Option (Placed Term) → Placed Term → Placed Term
+unfoldable pub or_if : Option (Placed Term) → Placed Term → Placed Term
 or_if None b = b
 or_if (Some a) b = or_over a b
 
 -- an atom or a form behind the atoms before it: an application
-abbrev pub with_atom : Parts → Placed Term → Parts
+unfoldable pub with_atom : Parts → Placed Term → Parts
 with_atom s a = record s { atoms = Some (applied_if s.atoms a) }
 
 -- the operands up to here: an operator applied to two
-abbrev pub infix_of : Parts → Placed Term
+unfoldable pub infix_of : Parts → Placed Term
 infix_of s = finished_if s.half (or_nothing s.atoms)
 
 -- an operator behind what stands left of it
-abbrev pub behind_operator : Parts → Placed Term → Parts
+unfoldable pub behind_operator : Parts → Placed Term → Parts
 behind_operator s op = record { ors = s.ors; ands = s.ands; half = Some (operator_applied op (infix_of s)); atoms = None }
 
-abbrev pub and_of : Parts → Placed Term
+unfoldable pub and_of : Parts → Placed Term
 and_of s = and_if s.ands (infix_of s)
 
-abbrev pub behind_and : Parts → Parts
+unfoldable pub behind_and : Parts → Parts
 behind_and s = record { ors = s.ors; ands = Some (and_of s); half = None; atoms = None }
 
 -- the whole expression up to here
-abbrev pub whole_of : Parts → Placed Term
+unfoldable pub whole_of : Parts → Placed Term
 whole_of s = or_if s.ors (and_of s)
 
-abbrev pub behind_or : Parts → Parts
+unfoldable pub behind_or : Parts → Parts
 behind_or s = record { ors = Some (whole_of s); ands = None; half = None; atoms = None }
 
 -- the innermost expression in whose condition or subject a step stands, with the place of its `if` or `match`, and the others
@@ -201,28 +201,28 @@ others (o ∷ os) = os
 
 -- ---- signatures
 
--- what a signature gives to the binding behind it: its name and where it begins, its type, and the type variables of the body
+-- what a signature gives to the binding behind it: its name and where it begins, its type, and the quantifiers at its front
 pub record Signed : Type 0 where
   pub name : List ℕ
   pub place : Place
   pub type_of : Placed Ty
-  pub variables : List (List ℕ)
+  pub front : List (List ℕ)
 
 abbrev pub signed_by : List (List ℕ) → Head → TypeExpr → Placed Ty → Signed
-signed_by variables h t ty = record { name = (head_name h).text; place = head_place h; type_of = ty; variables = variables_under variables t }
+signed_by variables h t ty = record { name = (head_name h).text; place = head_place h; type_of = ty; front = front_of_signature variables t }
 
 -- the signature of a binding of this name, where one stands before it
-abbrev pub signature_for : Option Signed → Written → Option Signed
+unfoldable pub signature_for : Option Signed → Written → Option Signed
 signature_for None w = None
 signature_for (Some s) w = if bytes_eq s.name w.text then Some s else None
 
--- the scope in the body of a binding
-abbrev pub body_scope : Option Signed → Scope → Scope
+-- the scope in the body of a binding, under the quantifiers at the front of its signature
+unfoldable pub body_scope : Option Signed → Scope → Scope
 body_scope None scope = scope
-body_scope (Some s) scope = record scope { variables = s.variables }
+body_scope (Some s) scope = record scope { variables = reverse s.front ++ scope.variables }
 
 -- a binding over the rest of a block, at the place of its signature, or at its own where it has none
-abbrev pub binding_over : Option Signed → Place → Placed Term → Placed Term → Placed Term
+unfoldable pub binding_over : Option Signed → Place → Placed Term → Placed Term → Placed Term
 binding_over None p a b = (trees.binding None a.0 b.0, p ∷ a.1 ++ b.1)
 binding_over (Some s) p a b = (trees.binding (Some s.type_of.0) a.0 b.0, s.place ∷ s.type_of.1 ++ a.1 ++ b.1)
 
@@ -295,3 +295,8 @@ abbrev mutual
       let found = signature_for signed w in
       block_meaning known (in_block (under (param_binder x ∷ param_binder y ∷ []) (body_scope found inner))) None c >>= λ t.
       block_meaning known inner None b >>= λ u. Ok (binding_over found (param_place x) (lambdas_over (x ∷ y ∷ []) t) u)
+
+-- the body of a binding under its parameters, and the lambdas of these over it
+abbrev pub bound_meaning : Known → Scope → Option Signed → List Param → Block → Result (Placed Term) Fault
+bound_meaning known scope found ps c =
+    block_meaning known (in_block (under (map param_binder ps) (body_scope found scope))) None c >>= λ x. Ok (lambdas_over ps x)

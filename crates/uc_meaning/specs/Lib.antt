@@ -12,5 +12,9 @@ pub mod PatternMeanings
 pub mod Placed
 pub mod Programs
 pub mod Results
+pub mod Senses
+pub mod SortNames
+pub mod Suffixes
 pub mod TypeMeanings
 pub mod UsingViews
+pub mod Words

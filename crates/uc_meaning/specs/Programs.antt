@@ -21,7 +21,7 @@ use Rattle.uc_meaning.specs.Results.{◌>>=◌}
 use Rattle.uc_meaning.specs.Meanings.{Known}
 use Rattle.uc_meaning.specs.Placed.{Placed}
 use Rattle.uc_meaning.specs.TypeMeanings.{type_atoms_meaning, signature_meaning}
-use Rattle.uc_meaning.specs.ExprMeanings.{Scope, Signed, signed_by, signature_for, body_scope, under, with_using, in_block, param_binder, lambdas_over, no_parts, expr_meaning, block_meaning}
+use Rattle.uc_meaning.specs.ExprMeanings.{Scope, Signed, signed_by, signature_for, with_using, no_parts, expr_meaning, bound_meaning}
 
 -- the places of the nodes of each member, of which the first is its name
 pub record PlacesOf : Type 0 where
@@ -60,14 +60,14 @@ ctors_meaning k w c [] = Ok []
 ctors_meaning k w c (x ∷ cs) = named (constructor_name w x) >>= λ name. ctors_meaning k w (c + 1) cs >>= λ names. Ok ((name, k, c) ∷ names)
 
 -- a definition: its signature, where one of its name stands before it, and its parameters and body
-abbrev pub definition_of : Option Signed → Placed Term → Placed Definition
+unfoldable pub definition_of : Option Signed → Placed Term → Placed Definition
 definition_of None body = (record { signature = None; body = body.0 }, body.1)
 definition_of (Some s) body = (record { signature = Some s.type_of.0; body = body.0 }, s.type_of.1 ++ body.1)
 
 abbrev pub definition_meaning : Known → Scope → Option Signed → Written → List Param → Block → Result (Placed Definition) Fault
 definition_meaning known scope signed w ps b =
     let found = signature_for signed w in
-    block_meaning known (in_block (under (map param_binder ps) (body_scope found scope))) None b >>= λ x. Ok (definition_of found (lambdas_over ps x))
+    bound_meaning known scope found ps b >>= λ x. Ok (definition_of found x)
 
 -- more members
 abbrev pub with_kind : List ℕ → List (List ℕ × ℕ × ℕ) → Place → Placed Decl → Meaning → Meaning
@@ -107,7 +107,7 @@ items_meaning known scope signed k (declaration s w ws cs ∷ is) =
     items_meaning known scope None (k + 1) is >>= λ rest.
     Ok (with_kind name ctors w.place (record { tag = tag_of s w; params = length ws; ctors = fields.0 }, fields.1) rest)
 items_meaning known scope signed k (signature h t ∷ is) =
-    signature_meaning known scope.usings [] t >>= λ ty. items_meaning known scope (Some (signed_by [] h t ty)) k is
+    signature_meaning known scope.usings scope.variables t >>= λ ty. items_meaning known scope (Some (signed_by scope.variables h t ty)) k is
 items_meaning known scope signed k (prefix h ps b ∷ is) =
     named (head_name h).text >>= λ name. definition_meaning known scope signed (head_name h) ps b >>= λ d.
     items_meaning known scope None k is >>= λ rest. Ok (with_term name (head_name h).place d rest)

@@ -86,6 +86,6 @@ signature_meaning known usings scope t =
     let front = put_in_front scope t in
     type_meaning known usings (reverse front ++ scope) t >>= λ x. Ok (quantified_at (first_place x.1) (length front) x)
 
--- the type variables in scope in the body under a signature: the quantifiers at its front, those put there first
-abbrev pub variables_under : List (List ℕ) → TypeExpr → List (List ℕ)
-variables_under scope t = reverse (put_in_front scope t ++ type_front t) ++ scope
+-- the quantifiers at the front of a signature, which are in scope in the body under it: those put there first
+abbrev pub front_of_signature : List (List ℕ) → TypeExpr → List (List ℕ)
+front_of_signature scope t = put_in_front scope t ++ type_front t

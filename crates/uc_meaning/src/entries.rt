@@ -1,21 +1,23 @@
 //! Names in name order, each with what it stands for.
-ghost use Rattle.std.specs.Prelude.{◌≡◌, [], ◌∷◌, ◌++◌, ◌⊎◌, map, slice_get, bytes_eq, IfOk, OnOk, IsTrue, ◌↔◌};
+ghost use Rattle.std.specs.Prelude.{◌≡◌, ℕ, List, [], ◌∷◌, ◌++◌, ◌⊎◌, map, slice_get, bytes_eq, IfOk, OnOk, IsTrue, ◌↔◌};
 ghost use Rattle.std.specs.List.{filter, list_all};
 ghost use Rattle.std.specs.Map.{lookup};
 ghost use Rattle.std.specs.Option.{option_map};
 ghost use Rattle.uc_base.specs.declared.fault.Fault.TheVariants.{Memory};
-ghost use Rattle.uc_tree.specs.References.{is_same_ref};
 ghost use Rattle.uc_meaning.specs.Candidates as spec;
-ghost use Rattle.uc_meaning.specs.Entries.{with_entry, entries_over};
+ghost use Rattle.uc_meaning.specs.Entries.{IsInOrder, with_entry, entries_over};
 ghost use Rattle.uc_meaning.specs.EntryViews.{entries_of};
 ghost use Rattle.uc_meaning.specs.Meanings.{is_constructor as is_constructor_target};
 ghost use Rattle.uc_meaning.specs.Results.{Gives};
+ghost use Rattle.uc_meaning.specs.Suffixes.{ending_at, told_all};
 
 use crate::hashes::is_constructor;
+use crate::senses::are_same;
+use crate::suffixes::Suffixes;
 use std::alloc::{AllocError, Global};
 use std::collections::BTreeMap;
 use std::marker::Model;
-use uc_base::{Fault, Name, NameList, Place, Ref};
+use uc_base::{Fault, Name, NameList, Place};
 use uc_tree::Target;
 
 /// Names in the order of a text, each with what it stands for.
@@ -38,25 +40,6 @@ impl Model for Entries {
     ghost view = { λ e. entries_of e.targets.entries };
 }
 
-/// Whether two references are the same.
-fn are_same_refs(r: &Ref, s: &Ref) -> bool
-    ensures { result ≡ is_same_ref r.now s.now }
-{
-    r == s
-}
-
-/// Whether two targets are the same.
-fn are_same(a: &Target, b: &Target) -> bool
-    ensures { result ≡ spec.is_same_target a.now b.now }
-{
-    match (a, b) {
-        (Target::Stored(r), Target::Stored(s)) => are_same_refs(r, s),
-        (Target::Own(k), Target::Own(l)) => k == l,
-        (Target::OwnCtor(k, c), Target::OwnCtor(l, d)) => k == l && c == d,
-        _ => false,
-    }
-}
-
 /// Whether a whole name ends in the segments of a written one, with more before them.
 pub fn ends_in(written: &[u8], whole: &[u8]) -> bool
     ensures { result ≡ spec.ends_in written.now whole.now }
@@ -72,7 +55,7 @@ pub fn ends_in(written: &[u8], whole: &[u8]) -> bool
 }
 
 /// Nothing has the written name.
-fn unbound(alloc: Global, place: Place, text: &[u8]) -> Fault
+pub fn unbound(alloc: Global, place: Place, text: &[u8]) -> Fault
     ensures { (result ≡ Memory) ⊎ (result ≡ spec.unbound place text.now) }
 {
     match Name::parse(alloc, text) {
@@ -138,6 +121,17 @@ impl Entries {
             }
         }
         Ok(())
+    }
+
+    /// Tells the texts in which the names end what they stand for.
+    pub fn add_to(&self, suffixes: &mut Suffixes)
+        ensures told { (w : List ℕ)
+            → ending_at suffixes.new w ≡ told_all (spec.ending_in self.now w) (ending_at suffixes.old w) }
+        ensures order { IsInOrder self.now }
+    {
+        for (name, target) in self.targets.iter() {
+            suffixes.add(name, target);
+        }
     }
 
     /// The names of constructors.

@@ -6,19 +6,23 @@ ghost use Rattle.uc_scratch.specs.TypeLevels.{texts_of};
 ghost use Rattle.uc_meaning.specs.Candidates as spec;
 ghost use Rattle.uc_meaning.specs.Entries.{IsInOrder};
 ghost use Rattle.uc_meaning.specs.Candidates.{Using as PlainUsing};
-ghost use Rattle.uc_meaning.specs.Meanings.{Known, constructor_among, entries_wanted};
+ghost use Rattle.uc_meaning.specs.Meanings.{Known, constructor_among};
 ghost use Rattle.uc_meaning.specs.FileNames.{known_of};
+ghost use Rattle.uc_meaning.specs.Results.{Gives};
+ghost use Rattle.uc_meaning.specs.SortNames.{indexed_wanted, senses_wanted};
 ghost use Rattle.uc_meaning.specs.UsingViews.{using_of, block_usings};
 
-use crate::entries::Entries;
+use crate::entries::{Entries, unbound};
 use crate::file_names::{own_kinds, own_terms};
 use crate::hashes::{builtin_meaning, hash_meaning, is_constructor};
 use crate::meanings::Meanings;
+use crate::senses::Senses;
 use crate::sort_names::SortNames;
 use crate::usings::{Using, Usings};
 use crate::wanted::Wanted;
+use crate::words::file_words;
 use std::alloc::{AllocError, Global};
-use uc_base::{Fault, Sort};
+use uc_base::{Fault, Place, Sort};
 use uc_scratch::{File, Reference, Written};
 use uc_tree::{Names, Target};
 
@@ -104,20 +108,23 @@ impl<'a, N: Names> Lookup<'a, N> {
         ensures { IfOk result (λ lookup. ⟦<Lookup<'a, N> as Meanings>⟧.known lookup
             ≡ known_of file.now (N.pairs stored.now) (N.hashes stored.now) (N.is_held stored.now)) }
     {
-        let kinds = own_kinds(alloc, &file.items)?;
-        let terms = own_terms(alloc, &file.items)?;
+        let words = file_words(alloc, file)?;
+        let own = own_kinds(alloc, &file.items)?;
+        let kinds = SortNames::new(alloc, stored, Sort::Kind, own, &words)?;
+        let own = own_terms(alloc, &file.items)?;
+        let terms = SortNames::new(alloc, stored, Sort::Term, own, &words)?;
         Ok(Lookup {
             stored,
-            kinds: SortNames::new(stored, Sort::Kind, kinds),
-            terms: SortNames::new(stored, Sort::Term, terms),
+            kinds,
+            terms,
         })
     }
 
     /// What a name stands for, if it is what is wanted.
     fn target(&self, alloc: Global, wanted: Wanted, text: &[u8]) -> Result<Option<Target>, Fault>
         ensures found { IfOk result (λ target. target
-            ≡ lookup (bytes_eq text.now) (entries_wanted self.now.kinds self.now.terms wanted)) }
-        ensures order { IsInOrder (entries_wanted self.now.kinds self.now.terms wanted) }
+            ≡ lookup (bytes_eq text.now) (indexed_wanted self.now.kinds self.now.terms wanted)) }
+        ensures order { IsInOrder (indexed_wanted self.now.kinds self.now.terms wanted) }
         ensures err { IfErr result (λ fault. fault ≡ Memory) }
     {
         match wanted {
@@ -140,8 +147,8 @@ impl<'a, N: Names> Lookup<'a, N> {
         entries: &mut Entries,
     ) -> Result<(), Fault>
         ensures used { OnOk result ((us : List PlainUsing)
-            → entries.old ≡ spec.used_in (entries_wanted self.now.kinds self.now.terms wanted) text.now us
-            → entries.new ≡ spec.used_in (entries_wanted self.now.kinds self.now.terms wanted) text.now (using_of clause.now ∷ us)) }
+            → entries.old ≡ spec.used_in (indexed_wanted self.now.kinds self.now.terms wanted) text.now us
+            → entries.new ≡ spec.used_in (indexed_wanted self.now.kinds self.now.terms wanted) text.now (using_of clause.now ∷ us)) }
         ensures err { IfErr result (λ fault. fault ≡ Memory) }
     {
         if !shortens(clause, text) {
@@ -166,7 +173,7 @@ impl<'a, N: Names> Lookup<'a, N> {
         text: &[u8],
     ) -> Result<Entries, Fault>
         ensures used { IfOk result (λ entries. entries
-            ≡ spec.used_in (entries_wanted self.now.kinds self.now.terms wanted) text.now (block_usings block.now)) }
+            ≡ spec.used_in (indexed_wanted self.now.kinds self.now.terms wanted) text.now (block_usings block.now)) }
         ensures err { IfErr result (λ fault. fault ≡ Memory) }
     {
         let mut entries = Entries::new(alloc);
@@ -185,7 +192,7 @@ impl<'a, N: Names> Lookup<'a, N> {
         text: &[u8],
     ) -> Result<Entries, Fault>
         ensures used { IfOk result (λ entries. entries
-            ≡ spec.first_filled (spec.used_among (entries_wanted self.now.kinds self.now.terms wanted) text.now usings.now)) }
+            ≡ spec.first_filled (spec.used_among (indexed_wanted self.now.kinds self.now.terms wanted) text.now usings.now)) }
         ensures err { IfErr result (λ fault. fault ≡ Memory) }
     {
         let blocks = usings.blocks();
@@ -203,7 +210,7 @@ impl<'a, N: Names> Lookup<'a, N> {
     /// The names that end in the segments of a written one.
     fn ending_in(&self, alloc: Global, wanted: Wanted, text: &[u8]) -> Result<Entries, AllocError>
         ensures { IfOk result (λ entries. entries
-            ≡ spec.ending_in (entries_wanted self.now.kinds self.now.terms wanted) text.now) }
+            ≡ spec.ending_in (indexed_wanted self.now.kinds self.now.terms wanted) text.now) }
     {
         match wanted {
             Wanted::Kind => self.kinds.ending_in(alloc, text),
@@ -214,10 +221,43 @@ impl<'a, N: Names> Lookup<'a, N> {
             }
         }
     }
+
+    /// What the names that end in the segments of a written one stand for, where the file writes it.
+    fn senses(&self, wanted: Wanted, text: &[u8]) -> Option<Senses>
+        ensures { result ≡ senses_wanted self.now.kinds self.now.terms wanted text.now }
+    {
+        match wanted {
+            Wanted::Kind => Some(self.kinds.ending(text)?.any),
+            Wanted::Term => Some(self.terms.ending(text)?.any),
+            Wanted::Constructor => Some(self.terms.ending(text)?.constructors),
+        }
+    }
+
+    /// What a written name means by the names that end in its segments. The names themselves are needed where they
+    /// stand for several things.
+    fn ending_meaning(
+        &self,
+        alloc: Global,
+        wanted: Wanted,
+        place: Place,
+        text: &[u8],
+    ) -> Result<Target, Fault>
+        ensures { Gives (λ t. t) result (spec.meaning_among place text.now
+            (spec.ending_in (indexed_wanted self.now.kinds self.now.terms wanted) text.now)) }
+    {
+        match self.senses(wanted, text) {
+            Some(Senses::None) => Err(unbound(alloc, place, text)),
+            Some(Senses::One(target)) => Ok(target),
+            Some(Senses::Many) | None => {
+                let entries = self.ending_in(alloc, wanted, text)?;
+                entries.meaning(alloc, place, text)
+            }
+        }
+    }
 }
 
 impl<'a, N: Names> Meanings for Lookup<'a, N> {
-    ghost known = { λ lookup. record { kinds = lookup.kinds; terms = lookup.terms; hashes = N.hashes lookup.stored.now; holds = N.is_held lookup.stored.now } };
+    ghost known = { λ lookup. record { kinds = lookup.kinds.entries; terms = lookup.terms.entries; hashes = N.hashes lookup.stored.now; holds = N.is_held lookup.stored.now } };
 
     fn name(
         &self,
@@ -242,10 +282,7 @@ impl<'a, N: Names> Meanings for Lookup<'a, N> {
         }
         match whole {
             Some(target) => Ok(target),
-            None => {
-                let entries = self.ending_in(alloc, wanted, text)?;
-                entries.meaning(alloc, written.place, text)
-            }
+            None => self.ending_meaning(alloc, wanted, written.place, text),
         }
     }
 

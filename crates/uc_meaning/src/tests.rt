@@ -133,6 +133,46 @@ fn refuses_names_without_one_meaning(rt: HostRuntime) -> Result<(), Fail> {
     Ok(())
 }
 
+/// Texts that write the names that are asked for.
+#[test]
+fn finds_names_that_the_file_writes(rt: HostRuntime) -> Result<(), Fail> {
+    let alloc = rt.alloc();
+    let plus = Target::Stored(Ref::Builtin(16));
+    let hidden = "(Nat.+) a b = a\nx = 1 + 2\n";
+    let typed = "structural type a.T = C\nx : T\nx = 1\n";
+    let cases = "structural type T = C | D\nx = cases C -> 1\n";
+    for (text, wanted, name, target) in [
+        ("x = 1 + 2\n", Wanted::Term, "+", plus),
+        (hidden, Wanted::Term, "+", Target::Own(0)),
+        ("a.f = 1\nx = f 2\n", Wanted::Term, "f", Target::Own(0)),
+        (typed, Wanted::Kind, "T", Target::Own(0)),
+        (cases, Wanted::Constructor, "C", Target::OwnCtor(0, 0)),
+        (cases, Wanted::Term, "C", Target::OwnCtor(0, 0)),
+    ] {
+        let found = meaning(alloc, text, wanted, name).ok();
+        assert!(rt; found == Some(target), "{name}");
+    }
+    for (text, wanted, name, line) in [
+        (
+            "a.f = 1\nb.f = 2\nx = f\n",
+            Wanted::Term,
+            "f",
+            "refused 11 Ambiguous 1:5 a.f b.f",
+        ),
+        ("x = y\n", Wanted::Term, "y", "refused 10 Unbound 1:5 y"),
+        (
+            "x = 1 + 2\n",
+            Wanted::Constructor,
+            "+",
+            "refused 10 Unbound 1:5 +",
+        ),
+    ] {
+        let found = fault_line(alloc, text, wanted, name)?;
+        assert_eq!(rt; found.as_slice(), line.as_bytes());
+    }
+    Ok(())
+}
+
 #[test]
 fn the_innermost_use_counts(rt: HostRuntime) -> Result<(), Fail> {
     let alloc = rt.alloc();

@@ -12,10 +12,10 @@ returns g c =
     let terms : List Entry = head_entries (g.N.Names.pairs c.args.stored.now Term) in
     let items : items_of c.deref.result.now ≡ c.args.file.now = ap items_of c.deref.ensures.value ∙ c.file.view_is in
     let again : items_of c.deref-2.result.now ≡ c.args.file.now = ap items_of c.deref-2.ensures.value ∙ c.file.view_is in
-    let k : c.new.result ≡ entries_over (kind_entries 0 c.args.file.now) kinds =
-    c.new.ensures ∙ ap (λ own. entries_over own kinds) c.in_ok-kinds.ensures ∙ over_over (kind_entries 0 (items_of c.deref.result.now)) kinds
+    let k : c.in_ok-kinds.kinds.entries ≡ entries_over (kind_entries 0 c.args.file.now) kinds =
+    c.in_ok-kinds.ensures.entries ∙ ap (λ own. entries_over own kinds) c.in_ok-own.ensures ∙ over_over (kind_entries 0 (items_of c.deref.result.now)) kinds
     ∙ ap (λ is. entries_over (kind_entries 0 is) kinds) items in
-    let t : c.new-2.result ≡ entries_over (term_entries 0 0 c.args.file.now) terms =
-    c.new-2.ensures ∙ ap (λ own. entries_over own terms) c.in_ok-terms.ensures ∙ over_over (term_entries 0 0 (items_of c.deref-2.result.now)) terms
+    let t : c.in_ok-terms.terms.entries ≡ entries_over (term_entries 0 0 c.args.file.now) terms =
+    c.in_ok-terms.ensures.entries ∙ ap (λ own. entries_over own terms) c.in_ok-own-2.ensures ∙ over_over (term_entries 0 0 (items_of c.deref-2.result.now)) terms
     ∙ ap (λ is. entries_over (term_entries 0 0 is) terms) again in
     λ i. record { kinds = k i; terms = t i; hashes = g.N.Names.hashes c.args.stored.now; holds = g.N.Names.is_held c.args.stored.now }

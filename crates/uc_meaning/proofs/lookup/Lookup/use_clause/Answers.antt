@@ -5,7 +5,7 @@ use Rattle.std.specs.Map.{lookup}
 use Rattle.std.specs.Cmp.Lexicographic.{slice_cmp}
 use Rattle.uc_meaning.specs.Entries.{Entry, with_entry}
 use Rattle.uc_meaning.specs.Candidates.{used_in}
-use Rattle.uc_meaning.specs.Meanings.{entries_wanted}
+use Rattle.uc_meaning.specs.SortNames.{indexed_wanted}
 use Rattle.uc_meaning.specs.UsingViews.{using_of}
 use Rattle.uc_meaning.proofs.Inserted.{put_found}
 use Rattle.uc_meaning.proofs.CandidateSteps.{used_more}
@@ -13,7 +13,7 @@ use Rattle.uc_meaning.proofs.lookup.Lookup.use_clause.Goals as goal
 
 pub returns-in-None-clause-used : goal.returns-in-None-clause-used
 returns-in-None-clause-used g c = λ us h.
-    let E : List Entry = entries_wanted c.args.self.now.kinds c.args.self.now.terms c.args.wanted in
+    let E : List Entry = indexed_wanted c.args.self.now.kinds c.args.self.now.terms c.args.wanted in
     let w : List ℕ = c.args.text.now in
     let u = using_of c.args.clause.now in
     let name : c.deref.result.now ≡ u.path ++ 46 ∷ w = c.deref.ensures.value ∙ c.in_ok-name.ensures in
@@ -23,7 +23,7 @@ returns-in-None-clause-used g c = λ us h.
 
 pub returns-in_ok-put-in-Some-clause-used : goal.returns-in_ok-put-in-Some-clause-used
 returns-in_ok-put-in-Some-clause-used g c = λ us h.
-    let E : List Entry = entries_wanted c.args.self.now.kinds c.args.self.now.terms c.args.wanted in
+    let E : List Entry = indexed_wanted c.args.self.now.kinds c.args.self.now.terms c.args.wanted in
     let w : List ℕ = c.args.text.now in
     let u = using_of c.args.clause.now in
     let name : c.deref.result.now ≡ u.path ++ 46 ∷ w = c.deref.ensures.value ∙ c.in_ok-name.ensures in

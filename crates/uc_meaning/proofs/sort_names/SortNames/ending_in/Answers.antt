@@ -18,5 +18,5 @@ returns g c =
     subst (λ l. IfOk c.from_names.result (λ entries. entries ≡ l))
     (ap (λ l. entries_over l []) found ∙ over_append (ending_in own w) (ending_in head w) []
     ∙ ap (entries_over (ending_in own w)) (over_nothing (ending_in head w) (in_order_filtered (λ e. ends_in w e.0) head order))
-    ∙ sym (filter_over (ends_in w) own head order) ∙ ap (λ l. ending_in l w) c.self.view_is)
+    ∙ sym (filter_over (ends_in w) own head order) ∙ ap (λ s. ending_in s.entries w) c.self.view_is)
     c.from_names.ensures

@@ -10,25 +10,25 @@ use Rattle.uc_meaning.proofs.sort_names.SortNames.get.Goals as goal
 pub returns-in-Some-clause-found : goal.returns-in-Some-clause-found
 returns-in-Some-clause-found g c =
     let head = head_entries (g.N.Names.pairs c.self.inside.names.now c.self.inside.sort) in
-    sym (ap (lookup (bytes_eq c.args.text.now)) (sym c.self.view_is) ∙ lookup_over c.args.text.now c.self.inside.own head
+    sym (ap (λ s. lookup (bytes_eq c.args.text.now) s.entries) (sym c.self.view_is) ∙ lookup_over c.args.text.now c.self.inside.own head
     ∙ ap (λ r. option_or r (lookup (bytes_eq c.args.text.now) head)) (sym c.in-Some.ensures))
 
 pub returns-in-None-clause-found : goal.returns-in-None-clause-found
 returns-in-None-clause-found g c =
     let head = head_entries (g.N.Names.pairs c.self.inside.names.now c.self.inside.sort) in
     subst (λ r. IfOk c.head_target.result (λ target. target ≡ r))
-    (sym (ap (lookup (bytes_eq c.args.text.now)) (sym c.self.view_is) ∙ lookup_over c.args.text.now c.self.inside.own head
+    (sym (ap (λ s. lookup (bytes_eq c.args.text.now) s.entries) (sym c.self.view_is) ∙ lookup_over c.args.text.now c.self.inside.own head
     ∙ ap (λ r. option_or r (lookup (bytes_eq c.args.text.now) head)) (sym c.in-None.ensures)))
     c.head_target.ensures.found
 
 pub returns-in-Some-clause-order : goal.returns-in-Some-clause-order
 returns-in-Some-clause-order g c =
-    subst IsInOrder c.self.view_is
+    subst (λ s. IsInOrder s.entries) c.self.view_is
     (in_order_over c.self.inside.own (head_entries (g.N.Names.pairs c.self.inside.names.now c.self.inside.sort))
     (in_order_head (g.N.Names.pairs c.self.inside.names.now c.self.inside.sort) (g.N.Names.in_order c.self.inside.names.now c.self.inside.sort)))
 
 pub returns-in-None-clause-order : goal.returns-in-None-clause-order
 returns-in-None-clause-order g c =
-    subst IsInOrder c.self.view_is
+    subst (λ s. IsInOrder s.entries) c.self.view_is
     (in_order_over c.self.inside.own (head_entries (g.N.Names.pairs c.self.inside.names.now c.self.inside.sort))
     (in_order_head (g.N.Names.pairs c.self.inside.names.now c.self.inside.sort) (g.N.Names.in_order c.self.inside.names.now c.self.inside.sort)))

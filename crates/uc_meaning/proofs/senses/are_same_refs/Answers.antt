@@ -1,5 +1,5 @@
 use Rattle.uc_base.specs.contracts.reference.RefOrd.TheImpl.Laws as ord
-use Rattle.uc_meaning.proofs.entries.are_same_refs.Goals as goal
+use Rattle.uc_meaning.proofs.senses.are_same_refs.Goals as goal
 use Rattle.std.proofs.Common.{◌∙◌}
 
 pub returns : goal.returns
