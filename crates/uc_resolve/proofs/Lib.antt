@@ -1,0 +1,11 @@
+pub mod Answered
+pub mod DeclarationSteps
+pub mod FilePlaces
+pub mod Heads
+pub mod HintSteps
+pub mod ItemSteps
+pub mod Joins
+pub mod NodePlaces
+pub mod PatternPlaces
+pub mod TermPlaces
+pub mod TypePlaces

@@ -1,0 +1,9 @@
+pub mod BySort
+pub mod Collected
+pub mod HintViews
+pub mod ItemMeanings
+pub mod Laws
+pub mod Members
+pub mod Passing
+pub mod PlaceLists
+pub mod ProgramViews

@@ -1,0 +1,3 @@
+mod AllNamed
+mod Joined
+mod Locals
