@@ -1,0 +1,4 @@
+pub mod Formed
+pub mod Growing
+pub mod Laws
+pub mod Seeing

@@ -1,0 +1,13 @@
+pub mod Extending
+pub mod Fitting
+pub mod GoingOn
+pub mod Instances
+pub mod Outcomes
+pub mod SoundInstances
+pub mod SoundRules
+pub mod SoundSubtypes
+pub mod Subtypes
+pub mod Tests
+pub mod Types
+pub mod Values
+pub mod WellFormed

@@ -1,0 +1,4 @@
+pub mod Extending
+pub mod Laws
+pub mod Valuations
+pub mod WellFormed

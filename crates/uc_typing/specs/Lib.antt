@@ -1,0 +1,11 @@
+pub mod Checking
+pub mod Components
+pub mod Examples
+pub mod Fronts
+pub mod Laws
+pub mod PatternMatching
+pub mod Relinking
+pub mod Scopes
+pub mod Stops
+pub mod Terms
+pub mod WrittenTypes
