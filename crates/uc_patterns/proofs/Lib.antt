@@ -1,0 +1,10 @@
+pub mod Arms
+pub mod Bound
+pub mod FreshOrder
+pub mod FrontParts
+pub mod Placing
+pub mod Reversed
+pub mod Solvable
+pub mod States
+pub mod Steps
+pub mod TwoParts

@@ -1,0 +1,4 @@
+pub mod Asking
+pub mod Binding
+pub mod Spots
+pub mod Walks
