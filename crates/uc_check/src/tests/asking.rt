@@ -116,14 +116,19 @@ fn are_checkable(alloc: Global, env: &Few, members: &[Definition]) -> Result<boo
     }
 }
 
-/// The types of members. `Usage`, which no rule of typing gives, comes of those that may not be
-/// asked about.
-pub(super) fn checked_all(alloc: Global, members: &[Definition]) -> Result<Vec<Ty>, Fault> {
-    let env = Few::new(alloc)?;
-    if !are_checkable(alloc, &env, members)? {
+/// The types of members over what is known. `Usage`, which no rule of typing gives, comes of those
+/// that may not be asked about.
+fn checked_over(alloc: Global, env: &Few, members: &[Definition]) -> Result<Vec<Ty>, Fault> {
+    if !are_checkable(alloc, env, members)? {
         return Err(Fault::Usage);
     }
-    check_component(alloc, &env, members)
+    check_component(alloc, env, members)
+}
+
+/// The types of members.
+pub(super) fn checked_all(alloc: Global, members: &[Definition]) -> Result<Vec<Ty>, Fault> {
+    let env = Few::new(alloc)?;
+    checked_over(alloc, &env, members)
 }
 
 fn only(mut types: Vec<Ty>) -> Result<Ty, Fault> {
@@ -147,6 +152,19 @@ fn checked(alloc: Global, signature: MadeTy, body: MadeTerm) -> Result<Ty, Fault
 /// The type of a definition without a signature.
 pub(super) fn found(alloc: Global, body: MadeTerm) -> Result<Ty, Fault> {
     checked_alone(alloc, None, body?)
+}
+
+/// The type of a definition without a signature, where `None` has another type.
+pub(super) fn found_with_none(alloc: Global, none: MadeTy, body: MadeTerm) -> Result<Ty, Fault> {
+    let mut env = Few::new(alloc)?;
+    env.none = none?;
+    let mut members = Vec::new(alloc);
+    members.push(Definition {
+        signature: None,
+        body: body?,
+    })?;
+    let types = checked_over(alloc, &env, &members)?;
+    only(types)
 }
 
 /// Whether a term may stand alone.
@@ -177,7 +195,7 @@ fn is_type(answer: Result<Ty, Fault>, ty: MadeTy) -> bool {
     }
 }
 
-fn is_fault(answer: Result<Ty, Fault>, fault: Fault) -> bool {
+pub(super) fn is_fault(answer: Result<Ty, Fault>, fault: Fault) -> bool {
     match &answer {
         Ok(_) => false,
         Err(answer) => *answer == fault,
@@ -185,7 +203,7 @@ fn is_fault(answer: Result<Ty, Fault>, fault: Fault) -> bool {
 }
 
 /// The spot of a node of the first member.
-fn spot(node: u32) -> At {
+pub(super) fn spot(node: u32) -> At {
     At::Spot(Spot { member: 0, node })
 }
 

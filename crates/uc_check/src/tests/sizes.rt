@@ -1,9 +1,12 @@
 //! Types at the limits of 20,000 nodes and 512 levels.
 
-use crate::tests::asking::{found, is_accepted, is_large, is_too_large};
+use crate::tests::asking::{
+    found, found_with_none, is_accepted, is_fault, is_large, is_too_large, spot,
+};
 use crate::tests::trees::*;
 use std::alloc::Global;
 use std::test::Fail;
+use uc_base::Fault;
 use uc_tree::{Term, Ty, type_nodes};
 
 /// `x = of; (x, x)` so many times, the first inside the others; the innermost binds the unit.
@@ -47,6 +50,26 @@ fn quantifiers_count(rt: HostRuntime) -> Result<(), Fail> {
     // The tuple has three levels, and each list gives a quantifier.
     assert!(rt; has_size(alloc, empty_lists(alloc, 509), 1_528));
     assert!(rt; is_large(alloc, empty_lists(alloc, 510), 1));
+    Ok(())
+}
+
+/// `(bot, .., bot)` of so many parts, with `bot : a`.
+fn bottoms(alloc: Global, count: u32) -> Result<Ty, Fault> {
+    let mut parts = Vec::new(alloc);
+    for _ in 0..count {
+        parts.push(nothing()?)?;
+    }
+    found_with_none(alloc, forall(alloc, bound(0)), Ok(Term::tuple(parts)))
+}
+
+#[test]
+fn generalised_types_are_measured(rt: HostRuntime) -> Result<(), Fail> {
+    let alloc = rt.alloc();
+    // The tuple has two levels, and each part gives a quantifier.
+    assert!(rt; bottoms(alloc, 510).is_ok());
+    assert!(rt; is_fault(bottoms(alloc, 511), Fault::TypeTooLarge(spot(1))));
+    // A tuple within the limits, and 15,000 quantifiers in front.
+    assert!(rt; is_fault(bottoms(alloc, 15_000), Fault::TypeTooLarge(spot(1))));
     Ok(())
 }
 
