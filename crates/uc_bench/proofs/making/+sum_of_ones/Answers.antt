@@ -1,4 +1,4 @@
-use Rattle.std.proofs.Common.{◌≡◌, ℕ, ◌+◌, ◌-◌, ◌/◌, ◌≤◌, IfOk, Result, Ok, Err, sym, subst, arith}
+use Rattle.std.proofs.Common.{◌≡◌, ℕ, ◌+◌, ◌≤◌, IfOk, Result, Ok, Err, sym, subst, arith}
 use Rattle.uc_tree.specs.Terms.{Term}
 use Rattle.uc_bench.specs.Ordinary.{IsSum, of_one, of_halves, one, addition}
 use Rattle.uc_bench.proofs.making.+sum_of_ones.Goals as goal
@@ -16,5 +16,5 @@ returns-then-count-eq1 t c = alone c.args.count c.one.result c.if-count-eq1.true
 
 pub returns : goal.returns
 returns t c =
-    halved c.sum.result c.args.count (c.args.count / 2) (c.args.count - c.args.count / 2) c.in_ok-first.first c.in_ok-second.second c.in_ok-first.ensures c.in_ok-second.ensures
+    halved c.sum.result c.args.count _ _ c.in_ok-first.first c.in_ok-second.second c.in_ok-first.ensures c.in_ok-second.ensures
     (omega arith) (omega arith) (omega arith) c.sum.ensures
