@@ -26,7 +26,7 @@ pub record IsReady (of : Known) (state : State) : Type 0 where
   pub seen : IsSeen state.context state.sight
 
 -- a type that is written, with new existentials in place of the variables of the quantifiers at its front, and the context that has them
-pub record IsInstance (old new : ContextEntries) (ty : Ty) (t : Open) : Type 0 where
+pub record IsFreshInstance (old new : ContextEntries) (ty : Ty) (t : Open) : Type 0 where
   pub type : t ≡ behind_front (existentials (fresh_numbers (front_count (open_from ty)) old)) (open_from ty)
   pub context : new ≡ old ++ map (λ n. Exists n) (fresh_numbers (front_count (open_from ty)) old)
 

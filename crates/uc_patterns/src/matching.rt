@@ -18,7 +18,7 @@ ghost use Rattle.uc_typing.specs.Scopes.{under};
 ghost use Rattle.uc_typing.specs.Stops.{unmatched, stop_at};
 ghost use Rattle.uc_patterns.specs.Asking.{IsKnown};
 ghost use Rattle.uc_patterns.specs.Spots.{IsStopped, passed};
-ghost use Rattle.uc_patterns.specs.Walks.{IsReady, AreTypes, IsInstance, Matches, MatchesAll, IsMatched, AreMatched};
+ghost use Rattle.uc_patterns.specs.Walks.{IsReady, AreTypes, IsFreshInstance, Matches, MatchesAll, IsMatched, AreMatched};
 
 use crate::declaring::{declare, declare_all, existentials, open_front};
 use crate::fronts::{arguments_of, list_of, literal_type, result_of};
@@ -219,7 +219,7 @@ fn constructor_type<K: TargetTypes>(
 ) -> Result<Open, Fault>
     requires known { IsKnown (K.known known.now) }
     requires typed { IsTyped IsConstructorType (K.known known.now) target.now }
-    ensures ok { IfOk result (λ t. (ty : Ty) → target_type (K.known known.now) target.now ≡ Some ty → IsInstance context.old context.new ty t) }
+    ensures ok { IfOk result (λ t. (ty : Ty) → target_type (K.known known.now) target.now ≡ Some ty → IsFreshInstance context.old context.new ty t) }
     ensures err { IfErr result (λ fault. fault ≡ Memory) }
 {
     match known.type_of(target) {

@@ -14,14 +14,14 @@ use Rattle.uc_context.proofs.Orders.{later_apart}
 use Rattle.uc_context.proofs.Solutions.{solved_somewhere, under_solved}
 use Rattle.uc_context.proofs.Under.{under-quantified, under-arrow, under-tuple, under-applied, under-settled}
 use Rattle.uc_context.proofs.Unsolved.{unsolved}
-use Rattle.uc_subtyping.proofs.Extending.{Extends, extends_nothing, extends_same, extends_solved, extends_by_unsolved, extends_by_solved}
+use Rattle.uc_subtyping.proofs.Extending.{ExtendsByMonotypes, extends_nothing, extends_same, extends_solved, extends_by_unsolved, extends_by_solved}
 
 -- an existential is solved by a type
 pub data Solves (x : ℕ) (t : Open) : ContextEntries → Type 0 where
   solves_here : {es : ContextEntries} → Solves x t (Solved x t ∷ es)
   solves_later : {e : Entry} {es : ContextEntries} → Solves x t es → Solves x t (e ∷ es)
 
-pub extends-solves : (x : ℕ) (t : Open) {es fs : ContextEntries} → Extends es fs → Solves x t es → Solves x t fs
+pub extends-solves : (x : ℕ) (t : Open) {es fs : ContextEntries} → ExtendsByMonotypes es fs → Solves x t es → Solves x t fs
 extends-solves x t extends_nothing h = elim h [ ]
 extends-solves x t (extends_same d) solves_here = solves_here
 extends-solves x t (extends_same d) (solves_later h) = solves_later (extends-solves x t d h)
@@ -86,7 +86,7 @@ absorbed gs order (Mark y ∷ es) has t = absorbed gs order es (λ x s h. has x 
 absorbed gs order (Binder y r ∷ es) has t = absorbed gs order es (λ x s h. has x s (solves_later h)) t
 
 -- solutions of an earlier context may be put in beforehand
-pub absorb : (es fs : ContextEntries) → Extends es fs → IsContext fs → (t : Open) → type_under fs (type_under es t) ≡ type_under fs t
+pub absorb : (es fs : ContextEntries) → ExtendsByMonotypes es fs → IsContext fs → (t : Open) → type_under fs (type_under es t) ≡ type_under fs t
 absorb es fs d order t = absorbed fs order es (λ x s h. extends-solves x s d h) t
 
 -- solutions that are put in stay

@@ -12,18 +12,18 @@ use Rattle.uc_context.specs.Variables.{is_monotype}
 use Rattle.uc_subtyping.specs.InHand.{SolvesByMonotypes}
 
 -- unsolved existentials of a context may be solved in another, by monotypes, and new existentials come in
-pub data Extends : ContextEntries → ContextEntries → Type 0 where
-  extends_nothing : Extends [] []
-  extends_same : {e : Entry} {es fs : ContextEntries} → Extends es fs → Extends (e ∷ es) (e ∷ fs)
-  extends_solved : {x : ℕ} {t : Open} {es fs : ContextEntries} → is_monotype t ≡ true → Extends es fs → Extends (Exists x ∷ es) (Solved x t ∷ fs)
-  extends_by_unsolved : {n : ℕ} {es fs : ContextEntries} → Extends es fs → Extends es (Exists n ∷ fs)
-  extends_by_solved : {n : ℕ} {t : Open} {es fs : ContextEntries} → is_monotype t ≡ true → Extends es fs → Extends es (Solved n t ∷ fs)
+pub data ExtendsByMonotypes : ContextEntries → ContextEntries → Type 0 where
+  extends_nothing : ExtendsByMonotypes [] []
+  extends_same : {e : Entry} {es fs : ContextEntries} → ExtendsByMonotypes es fs → ExtendsByMonotypes (e ∷ es) (e ∷ fs)
+  extends_solved : {x : ℕ} {t : Open} {es fs : ContextEntries} → is_monotype t ≡ true → ExtendsByMonotypes es fs → ExtendsByMonotypes (Exists x ∷ es) (Solved x t ∷ fs)
+  extends_by_unsolved : {n : ℕ} {es fs : ContextEntries} → ExtendsByMonotypes es fs → ExtendsByMonotypes es (Exists n ∷ fs)
+  extends_by_solved : {n : ℕ} {t : Open} {es fs : ContextEntries} → is_monotype t ≡ true → ExtendsByMonotypes es fs → ExtendsByMonotypes es (Solved n t ∷ fs)
 
-pub extends-refl : (es : ContextEntries) → Extends es es
+pub extends-refl : (es : ContextEntries) → ExtendsByMonotypes es es
 extends-refl [] = extends_nothing
 extends-refl (e ∷ es) = extends_same (extends-refl es)
 
-pub extends-trans : {es fs gs : ContextEntries} → Extends es fs → Extends fs gs → Extends es gs
+pub extends-trans : {es fs gs : ContextEntries} → ExtendsByMonotypes es fs → ExtendsByMonotypes fs gs → ExtendsByMonotypes es gs
 extends-trans d extends_nothing = d
 extends-trans (extends_same d) (extends_same e) = extends_same (extends-trans d e)
 extends-trans (extends_solved m d) (extends_same e) = extends_solved m (extends-trans d e)
@@ -34,7 +34,7 @@ extends-trans (extends_by_unsolved d) (extends_solved m e) = extends_by_solved m
 extends-trans d (extends_by_unsolved e) = extends_by_unsolved (extends-trans d e)
 extends-trans d (extends_by_solved m e) = extends_by_solved m (extends-trans d e)
 
-pub extends-monotypes : {es fs : ContextEntries} → Extends es fs → SolvesByMonotypes es → SolvesByMonotypes fs
+pub extends-monotypes : {es fs : ContextEntries} → ExtendsByMonotypes es fs → SolvesByMonotypes es → SolvesByMonotypes fs
 extends-monotypes extends_nothing h = tt
 extends-monotypes (extends_same {e = Rigid x} d) h = extends-monotypes d h
 extends-monotypes (extends_same {e = Exists x} d) h = extends-monotypes d h
@@ -51,7 +51,7 @@ module _ (test : Entry → Bool) (solved_passes : (x : ℕ) (t : Open) → test 
   or_more true d a b f g h = or_left d b (f refl)
   or_more false d a b f g h = or_right d b (g h)
 
-  pub extends-passes : {es fs : ContextEntries} → Extends es fs → list_any test es ≡ true → list_any test fs ≡ true
+  pub extends-passes : {es fs : ContextEntries} → ExtendsByMonotypes es fs → list_any test es ≡ true → list_any test fs ≡ true
   extends-passes extends_nothing h = h
   extends-passes (extends_same {e = e} {es = es} {fs = fs} d) h = or_more (test e) (test e) (list_any test es) (list_any test fs) (λ p. p) (extends-passes d) h
   extends-passes (extends_solved {x = x} {t = t} {es = es} {fs = fs} m d) h = or_more (test (Exists x)) (test (Solved x t)) (list_any test es) (list_any test fs) (solved_passes x t) (extends-passes d) h
@@ -66,23 +66,23 @@ unsolved_entry x (Solved y t) p = absurd cc
 unsolved_entry x (Mark y) p = absurd cc
 unsolved_entry x (Binder y t) p = absurd cc
 
-module _ (x : ℕ) (new : ContextEntries) (adds : (es : ContextEntries) → Extends (Exists x ∷ es) (new ++ es)) where
-  exchanged_first : (e : Entry) (es : ContextEntries) (b : Bool) → is_unsolved x e ≡ b → Extends es (exchanged x new es) → Extends (e ∷ es) (cond b (new ++ es) (e ∷ exchanged x new es))
-  exchanged_first e es true p d = subst (λ (c : Entry). Extends (c ∷ es) (new ++ es)) (unsolved_entry x e p) (adds es)
+module _ (x : ℕ) (new : ContextEntries) (adds : (es : ContextEntries) → ExtendsByMonotypes (Exists x ∷ es) (new ++ es)) where
+  exchanged_first : (e : Entry) (es : ContextEntries) (b : Bool) → is_unsolved x e ≡ b → ExtendsByMonotypes es (exchanged x new es) → ExtendsByMonotypes (e ∷ es) (cond b (new ++ es) (e ∷ exchanged x new es))
+  exchanged_first e es true p d = subst (λ (c : Entry). ExtendsByMonotypes (c ∷ es) (new ++ es)) (unsolved_entry x e p) (adds es)
   exchanged_first e es false p d = extends_same d
 
-  extends-exchanged : (es : ContextEntries) → Extends es (exchanged x new es)
+  extends-exchanged : (es : ContextEntries) → ExtendsByMonotypes es (exchanged x new es)
   extends-exchanged [] = extends_nothing
   extends-exchanged (e ∷ es) = exchanged_first e es (is_unsolved x e) refl (extends-exchanged es)
 
-with_new : (x : ℕ) (ns : List ℕ) (t : Open) → is_monotype t ≡ true → (es : ContextEntries) → Extends (Exists x ∷ es) ((map (λ n. Exists n) ns ++ Solved x t ∷ []) ++ es)
+with_new : (x : ℕ) (ns : List ℕ) (t : Open) → is_monotype t ≡ true → (es : ContextEntries) → ExtendsByMonotypes (Exists x ∷ es) ((map (λ n. Exists n) ns ++ Solved x t ∷ []) ++ es)
 with_new x [] t m es = extends_solved m (extends-refl es)
 with_new x (n ∷ ns) t m es = extends_by_unsolved (with_new x ns t m es)
 
-pub extends-solved : (es : ContextEntries) (x : ℕ) (t : Open) → is_monotype t ≡ true → Extends es (solved es x t)
+pub extends-solved : (es : ContextEntries) (x : ℕ) (t : Open) → is_monotype t ≡ true → ExtendsByMonotypes es (solved es x t)
 extends-solved es x t m = extends-exchanged x (Solved x t ∷ []) (λ ds. extends_solved m (extends-refl ds)) es
 
-pub extends-solved_with : (es : ContextEntries) (x : ℕ) (ns : List ℕ) (t : Open) → is_monotype t ≡ true → Extends es (solved_with es x ns t)
+pub extends-solved_with : (es : ContextEntries) (x : ℕ) (ns : List ℕ) (t : Open) → is_monotype t ≡ true → ExtendsByMonotypes es (solved_with es x ns t)
 extends-solved_with es x ns t m = extends-exchanged x (map (λ n. Exists n) ns ++ Solved x t ∷ []) (with_new x ns t m) es
 
 head_is : (d e : Entry) (ds es : ContextEntries) → d ∷ ds ≡ e ∷ es → d ≡ e
@@ -96,12 +96,12 @@ pub record Cut (d : Entry) (es rest gs : ContextEntries) : Type 0 where
   pub front : ContextEntries
   pub tail : ContextEntries
   pub whole : gs ≡ front ++ d ∷ tail
-  pub extends : Extends es front
-  pub behind : Extends rest tail
+  pub extends : ExtendsByMonotypes es front
+  pub behind : ExtendsByMonotypes rest tail
   pub dropped : dropped_from d gs ≡ front
 
 module _ (d : Entry) (self : is_same_entry d d ≡ true) (not_exists : (m : ℕ) → is_same_entry d (Exists m) ≡ false) (not_solved : (m : ℕ) (t : Open) → is_same_entry d (Solved m t) ≡ false) where
-  others : (rest tail : ContextEntries) → Extends rest tail → list_any (is_same_entry d) rest ≡ false → list_any (is_same_entry d) tail ≡ false
+  others : (rest tail : ContextEntries) → ExtendsByMonotypes rest tail → list_any (is_same_entry d) rest ≡ false → list_any (is_same_entry d) tail ≡ false
   others rest tail extends_nothing n = n
   others rest tail (extends_same {e = e} {es = es} {fs = fs} h) n = let p = or_parts (is_same_entry d e) (list_any (is_same_entry d) es) n in or_from (is_same_entry d e) (list_any (is_same_entry d) fs) p.0 (others es fs h p.1)
   others rest tail (extends_solved {x = x} {t = t} {es = es} {fs = fs} m h) n =
@@ -120,13 +120,13 @@ module _ (d : Entry) (self : is_same_entry d d ≡ true) (not_exists : (m : ℕ)
     front : ContextEntries
     tail : ContextEntries
     whole : gs ≡ front ++ d ∷ tail
-    extends : Extends es front
-    behind : Extends rest tail
+    extends : ExtendsByMonotypes es front
+    behind : ExtendsByMonotypes rest tail
 
   is_exists : (x : ℕ) → Exists x ≡ d → ⊥
   is_exists x e = false≢true (sym (not_exists x) ∙ ap (is_same_entry d) e ∙ self)
 
-  split : (es rest : ContextEntries) {cs gs : ContextEntries} → cs ≡ es ++ d ∷ rest → Extends cs gs → Split es rest gs
+  split : (es rest : ContextEntries) {cs gs : ContextEntries} → cs ≡ es ++ d ∷ rest → ExtendsByMonotypes cs gs → Split es rest gs
   split [] rest q extends_nothing = absurd cc
   split (e ∷ es) rest q extends_nothing = absurd cc
   split [] rest q (extends_same {e = c} {es = es'} {fs = fs} h) = record {
@@ -134,7 +134,7 @@ module _ (d : Entry) (self : is_same_entry d d ≡ true) (not_exists : (m : ℕ)
     tail = fs;
     whole = ap (λ (a : Entry). a ∷ fs) (head_is c d es' rest q);
     extends = extends_nothing;
-    behind = subst (λ (cs : ContextEntries). Extends cs fs) (tail_is c d es' rest q) h;
+    behind = subst (λ (cs : ContextEntries). ExtendsByMonotypes cs fs) (tail_is c d es' rest q) h;
   }
   split (e ∷ es) rest q (extends_same {e = c} {es = es'} {fs = fs} h) =
       let r : Split es rest fs = split es rest (tail_is c e es' (es ++ d ∷ rest) q) h in
@@ -142,7 +142,7 @@ module _ (d : Entry) (self : is_same_entry d d ≡ true) (not_exists : (m : ℕ)
         front = c ∷ r.front;
         tail = r.tail;
         whole = ap (λ (cs : ContextEntries). c ∷ cs) r.whole;
-        extends = subst (λ (a : Entry). Extends (a ∷ es) (c ∷ r.front)) (head_is c e es' (es ++ d ∷ rest) q) (extends_same r.extends);
+        extends = subst (λ (a : Entry). ExtendsByMonotypes (a ∷ es) (c ∷ r.front)) (head_is c e es' (es ++ d ∷ rest) q) (extends_same r.extends);
         behind = r.behind;
       }
   split [] rest q (extends_solved {x = x} {es = es'} m h) = absurd (is_exists x (head_is (Exists x) d es' rest q))
@@ -152,7 +152,7 @@ module _ (d : Entry) (self : is_same_entry d d ≡ true) (not_exists : (m : ℕ)
         front = Solved x t ∷ r.front;
         tail = r.tail;
         whole = ap (λ (cs : ContextEntries). Solved x t ∷ cs) r.whole;
-        extends = subst (λ (a : Entry). Extends (a ∷ es) (Solved x t ∷ r.front)) (head_is (Exists x) e es' (es ++ d ∷ rest) q) (extends_solved m r.extends);
+        extends = subst (λ (a : Entry). ExtendsByMonotypes (a ∷ es) (Solved x t ∷ r.front)) (head_is (Exists x) e es' (es ++ d ∷ rest) q) (extends_solved m r.extends);
         behind = r.behind;
       }
   split es rest q (extends_by_unsolved {n = n} {fs = fs} h) =
@@ -174,7 +174,7 @@ module _ (d : Entry) (self : is_same_entry d d ≡ true) (not_exists : (m : ℕ)
         behind = r.behind;
       }
 
-  pub extends-cut : (es rest gs : ContextEntries) → list_any (is_same_entry d) rest ≡ false → Extends (es ++ d ∷ rest) gs → Cut d es rest gs
+  pub extends-cut : (es rest gs : ContextEntries) → list_any (is_same_entry d) rest ≡ false → ExtendsByMonotypes (es ++ d ∷ rest) gs → Cut d es rest gs
   extends-cut es rest gs n h =
       let r : Split es rest gs = split es rest refl h in
       record {

@@ -19,7 +19,7 @@ use Rattle.uc_context.proofs.Solved.{exchanged_at}
 use Rattle.uc_context.proofs.Under.{under-append, under-unsolved}
 use Rattle.uc_subtyping.specs.Instantiation.{is_after}
 use Rattle.uc_subtyping.proofs.Absorbing.{solves-solved, solves-under}
-use Rattle.uc_subtyping.proofs.Extending.{Extends, extends-solved, Cut, extends-cut}
+use Rattle.uc_subtyping.proofs.Extending.{ExtendsByMonotypes, extends-solved, Cut, extends-cut}
 use Rattle.uc_subtyping.proofs.InOrder.{StandsUnsolved, stands_unsolved, in_order_solved, fresh_unused, in_order_rigid, in_order_exists, in_order_front}
 use Rattle.uc_subtyping.proofs.Ready.{Other}
 use Rattle.uc_subtyping.proofs.Scoped.{up_to, self_up_to, known_up_to, before_front}
@@ -31,7 +31,7 @@ module _ (es : ContextEntries) (x : ℕ) (t : Open) (order : IsContext es) (u : 
   solved-order : IsContext (solved es x t)
   solved-order = in_order_solved x es order u t (variables_declared (before x es) t k)
 
-  solved-extends : Extends es (solved es x t)
+  solved-extends : ExtendsByMonotypes es (solved es x t)
   solved-extends = extends-solved es x t mono
 
   solved-stays : (y : ℕ) → list_any (is_unsolved y) es ≡ true → Other x y → list_any (is_unsolved y) (solved es x t) ≡ true

@@ -12,7 +12,7 @@ use Rattle.uc_subtyping.specs.declared.side.Side.{Side}
 use Rattle.uc_subtyping.specs.Instances.{Instances, no_instances, instance, all_at}
 use Rattle.uc_subtyping.specs.Readiness.{Has, has_here, has_later, AreDistinct, IsReady}
 use Rattle.uc_subtyping.proofs.Absorbing.{absorb}
-use Rattle.uc_subtyping.proofs.Extending.{Extends, extends-refl, extends-trans}
+use Rattle.uc_subtyping.proofs.Extending.{ExtendsByMonotypes, extends-refl, extends-trans}
 use Rattle.uc_context.proofs.Solutions.{declared_variable}
 use Rattle.uc_subtyping.proofs.Scoped.{up_to, known_among, self_up_to}
 use Rattle.uc_subtyping.proofs.Settled.{Settled, settled-under, differ, eqb-flip, unsolved_declared, unsolved_stays}

@@ -12,7 +12,7 @@ use Rattle.uc_context.specs.Variables.{has_variables}
 use Rattle.uc_context.proofs.Looked.{existential_tests}
 use Rattle.uc_context.proofs.Orders.{later_apart}
 use Rattle.uc_context.proofs.Solutions.{declared_variable}
-use Rattle.uc_subtyping.proofs.Extending.{Extends, extends_nothing, extends_same, extends_solved, extends_by_unsolved, extends_by_solved, extends-passes}
+use Rattle.uc_subtyping.proofs.Extending.{ExtendsByMonotypes, extends_nothing, extends_same, extends_solved, extends_by_unsolved, extends_by_solved, extends-passes}
 use Rattle.uc_subtyping.proofs.Settled.{known-more}
 
 -- an existential behind what stands before it
@@ -65,16 +65,16 @@ new_before y front e ds order v =
     (list_any-append (is_variable y) front (e ∷ []) ∙ or_right (list_any (is_variable y) front) (list_any (is_variable y) (e ∷ [])) (or_left (is_variable y e) false p))) ∙ v))
 
 -- what stands before a variable goes on as well
-extends-before : (y : ℕ) (front fs gs : ContextEntries) → Extends fs gs → AreInOrder front gs → list_any (is_variable y) fs ≡ true → Extends (before y fs) (before y gs)
+extends-before : (y : ℕ) (front fs gs : ContextEntries) → ExtendsByMonotypes fs gs → AreInOrder front gs → list_any (is_variable y) fs ≡ true → ExtendsByMonotypes (before y fs) (before y gs)
 extends-before y front fs gs extends_nothing order v = extends_nothing
 extends-before y front fs gs (extends_same {e = e} {es = es} {fs = ds} d) order v = go (is_variable y e) v (extends-before y (front ++ e ∷ []) es ds d order.1)
   where
-    go : (b : Bool) → (b || list_any (is_variable y) es) ≡ true → (list_any (is_variable y) es ≡ true → Extends (before y es) (before y ds)) → Extends (cond b [] (e ∷ before y es)) (cond b [] (e ∷ before y ds))
+    go : (b : Bool) → (b || list_any (is_variable y) es) ≡ true → (list_any (is_variable y) es ≡ true → ExtendsByMonotypes (before y es) (before y ds)) → ExtendsByMonotypes (cond b [] (e ∷ before y es)) (cond b [] (e ∷ before y ds))
     go true w rest = extends_nothing
     go false w rest = extends_same (rest w)
 extends-before y front fs gs (extends_solved {x = x} {t = t} {es = es} {fs = ds} m d) order v = go (eqb x y) v (extends-before y (front ++ Solved x t ∷ []) es ds d order.1)
   where
-    go : (b : Bool) → (b || list_any (is_variable y) es) ≡ true → (list_any (is_variable y) es ≡ true → Extends (before y es) (before y ds)) → Extends (cond b [] (Exists x ∷ before y es)) (cond b [] (Solved x t ∷ before y ds))
+    go : (b : Bool) → (b || list_any (is_variable y) es) ≡ true → (list_any (is_variable y) es ≡ true → ExtendsByMonotypes (before y es) (before y ds)) → ExtendsByMonotypes (cond b [] (Exists x ∷ before y es)) (cond b [] (Solved x t ∷ before y ds))
     go true w rest = extends_nothing
     go false w rest = extends_solved m (rest w)
 extends-before y front fs gs (extends_by_unsolved {n = n} {es = es} {fs = ds} d) order v =
@@ -82,8 +82,8 @@ extends-before y front fs gs (extends_by_unsolved {n = n} {es = es} {fs = ds} d)
 extends-before y front fs gs (extends_by_solved {n = n} {t = t} {es = es} {fs = ds} m d) order v =
     rw (new_before y front (Solved n t) ds order (extends-passes (is_variable y) (λ x s p. p) d v)) (extends_by_solved m (extends-before y (front ++ Solved n t ∷ []) es ds d order.1 v))
 
-module _ (y : ℕ) (fs gs : ContextEntries) (d : Extends fs gs) (order : IsContext gs) (v : list_any (is_variable y) fs ≡ true) where
-  goes_on : Extends (before y fs) (before y gs)
+module _ (y : ℕ) (fs gs : ContextEntries) (d : ExtendsByMonotypes fs gs) (order : IsContext gs) (v : list_any (is_variable y) fs ≡ true) where
+  goes_on : ExtendsByMonotypes (before y fs) (before y gs)
   goes_on = extends-before y [] fs gs d order v
 
   -- each variable that stands before an existential does so later

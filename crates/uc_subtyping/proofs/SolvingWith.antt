@@ -17,7 +17,7 @@ use Rattle.uc_context.proofs.Solved.{exchanged_at}
 use Rattle.uc_subtyping.specs.Instances.{Instances}
 use Rattle.uc_subtyping.specs.Readiness.{Has, AreDistinct, IsReady}
 use Rattle.uc_subtyping.proofs.Absorbing.{Solves, solves-solved_with, solves-under}
-use Rattle.uc_subtyping.proofs.Extending.{Extends, extends-solved_with, extends-trans}
+use Rattle.uc_subtyping.proofs.Extending.{ExtendsByMonotypes, extends-solved_with, extends-trans}
 use Rattle.uc_subtyping.proofs.InOrder.{StandsUnsolved, stands_unsolved, in_order_solved_with}
 use Rattle.uc_subtyping.proofs.Ready.{Other, ApartFrom, known_through}
 use Rattle.uc_subtyping.proofs.Scoped.{up_to, known_up_to, self_up_to}
@@ -46,7 +46,7 @@ module _ (es : ContextEntries) (x : ℕ) (ns : List ℕ) (t : Open) (order : IsC
   pub with-order : IsContext (solved_with es x ns t)
   with-order = in_order_solved_with x es ns t order u new (variables_declared (map (λ n. Exists n) ns) t own)
 
-  with-extends : Extends es (solved_with es x ns t)
+  with-extends : ExtendsByMonotypes es (solved_with es x ns t)
   with-extends = extends-solved_with es x ns t mono
 
   -- other existentials stay unsolved

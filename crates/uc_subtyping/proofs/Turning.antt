@@ -7,7 +7,7 @@ use Rattle.uc_context.specs.Contexts.{IsContext, type_under, types_under}
 use Rattle.uc_context.specs.Entries.{ContextEntries, is_rigid, is_unsolved, is_variable, declares}
 use Rattle.uc_context.specs.Variables.{mentions, some_mentions, has_variables}
 use Rattle.uc_context.proofs.Under.{under-bound, under-rigid, under-quantified, under-arrow, under-unit, under-tuple, under-applied}
-use Rattle.uc_subtyping.proofs.Extending.{Extends, extends-passes}
+use Rattle.uc_subtyping.proofs.Extending.{ExtendsByMonotypes, extends-passes}
 use Rattle.uc_subtyping.proofs.Scoped.{up_to, known_among, rigid_up_to, known_earlier}
 use Rattle.uc_subtyping.proofs.Settled.{Settled, known_under, mentioned_known, unsolved_declared}
 
@@ -19,7 +19,7 @@ pub record Moved (apart : ℕ → Type 0) (es fs : ContextEntries) (y : ℕ) : T
 
 -- a context goes on from another, where existentials were instantiated from which others are apart
 pub record Turns (apart : ℕ → Type 0) (es fs : ContextEntries) : Type 0 where
-  pub extends : Extends es fs
+  pub extends : ExtendsByMonotypes es fs
   pub order : IsContext fs
   pub moves : (y : ℕ) → list_any (is_unsolved y) es ≡ true → apart y → Moved apart es fs y
   pub known : (y : ℕ) → list_any (is_unsolved y) es ≡ true → has_variables (up_to y fs) (type_under fs (existential y)) ≡ true
@@ -67,10 +67,10 @@ module _ (apart : ℕ → Type 0) (es fs : ContextEntries) where
           clear = λ w d p n. let q = or_parts (mentions w t) (some_mentions w ts) n in or_from (mentions w (type_under fs t)) (some_mentions w (types_under fs ts)) (r.clear w d p q.0) (s.clear w d p q.1);
         }
 
-pub extends-declares : (es fs : ContextEntries) → Extends es fs → (y : ℕ) → list_any (declares y) es ≡ true → list_any (declares y) fs ≡ true
+pub extends-declares : (es fs : ContextEntries) → ExtendsByMonotypes es fs → (y : ℕ) → list_any (declares y) es ≡ true → list_any (declares y) fs ≡ true
 extends-declares es fs d y h = extends-passes (declares y) (λ x t p. p) d h
 
-pub extends-rigids : (es fs : ContextEntries) → Extends es fs → (y : ℕ) → list_any (is_rigid y) es ≡ true → list_any (is_rigid y) fs ≡ true
+pub extends-rigids : (es fs : ContextEntries) → ExtendsByMonotypes es fs → (y : ℕ) → list_any (is_rigid y) es ≡ true → list_any (is_rigid y) fs ≡ true
 extends-rigids es fs d y h = extends-passes (is_rigid y) (λ x t p. p) d h
 
 -- a settled type that mentions only what is apart

@@ -20,7 +20,7 @@ use Rattle.uc_sound_typing.specs.Formed.{IsFormedPattern}
 use Rattle.uc_sound_typing.proofs.Growing.{Covered-grows}
 use Rattle.uc_typing.specs.Fronts.{front_count, behind_front, existentials, arguments_of, repeated, list_of}
 use Rattle.uc_patterns.specs.declared.state.State.{State}
-use Rattle.uc_patterns.specs.Walks.{AreTypes, IsInstance, IsMatched}
+use Rattle.uc_patterns.specs.Walks.{AreTypes, IsFreshInstance, IsMatched}
 use Rattle.uc_patterns.proofs.Arms.{Facing, Passing, facing_tuple, facing_list, facing_cons, facing_snoc, facing_fields, facing_refused, before_ready, before_lower, before_upper, mid_ready, mid_types, mid_room, passing_matched, passing_stopped, passing_other, tuple_expected, list_expected, cons_expected, snoc_expected, fields_expected, patterns_count-of, tuple_counts, list_counts, tuple_types, tuple_many, list_types, by_variable, by_alias, alias_stopped, alias_room, by_any}
 use Rattle.uc_patterns.proofs.FrontParts.{repeated_length}
 use Rattle.uc_patterns.proofs.States.{Behind, behind_binder}
@@ -284,7 +284,7 @@ match_constructor-expect-requires-clause-ready g t c =
     let ps : List Pattern = c.args.fields.now in
     let before : State = record { context = c.constructor_type.new.context; sight = old.sight; spot = old.spot } in
     let ty : Ty = c.requires.constructor.ty in
-    let opened : IsInstance old.context before.context ty c.in_ok-constructor.constructor = c.in_ok-constructor.ensures.ok ty c.requires.constructor.is in
+    let opened : IsFreshInstance old.context before.context ty c.in_ok-constructor.constructor = c.in_ok-constructor.ensures.ok ty c.requires.constructor.is in
     let f : Facing known old before (patterns.constructor c.args.target.now (patterns_of ps)) s c.result_of-expected.result.now (fields_expected old.context (patterns_of ps) ty) = facing_fields known old before s c.result_of-expected.result.now c.requires.ready c.requires.typed refl refl c.args.target.now (patterns_of ps) ty c.in_ok-constructor.constructor c.requires.constructor c.requires.pattern c.requires.constructor.is opened.context opened.type c.result_of-expected.ensures in
     before_ready f
 
@@ -296,7 +296,7 @@ match_constructor-expect-requires-clause-lower g t c =
     let ps : List Pattern = c.args.fields.now in
     let before : State = record { context = c.constructor_type.new.context; sight = old.sight; spot = old.spot } in
     let ty : Ty = c.requires.constructor.ty in
-    let opened : IsInstance old.context before.context ty c.in_ok-constructor.constructor = c.in_ok-constructor.ensures.ok ty c.requires.constructor.is in
+    let opened : IsFreshInstance old.context before.context ty c.in_ok-constructor.constructor = c.in_ok-constructor.ensures.ok ty c.requires.constructor.is in
     let f : Facing known old before (patterns.constructor c.args.target.now (patterns_of ps)) s c.result_of-expected.result.now (fields_expected old.context (patterns_of ps) ty) = facing_fields known old before s c.result_of-expected.result.now c.requires.ready c.requires.typed refl refl c.args.target.now (patterns_of ps) ty c.in_ok-constructor.constructor c.requires.constructor c.requires.pattern c.requires.constructor.is opened.context opened.type c.result_of-expected.ensures in
     before_lower f
 
@@ -308,7 +308,7 @@ match_constructor-expect-requires-clause-upper g t c =
     let ps : List Pattern = c.args.fields.now in
     let before : State = record { context = c.constructor_type.new.context; sight = old.sight; spot = old.spot } in
     let ty : Ty = c.requires.constructor.ty in
-    let opened : IsInstance old.context before.context ty c.in_ok-constructor.constructor = c.in_ok-constructor.ensures.ok ty c.requires.constructor.is in
+    let opened : IsFreshInstance old.context before.context ty c.in_ok-constructor.constructor = c.in_ok-constructor.ensures.ok ty c.requires.constructor.is in
     let f : Facing known old before (patterns.constructor c.args.target.now (patterns_of ps)) s c.result_of-expected.result.now (fields_expected old.context (patterns_of ps) ty) = facing_fields known old before s c.result_of-expected.result.now c.requires.ready c.requires.typed refl refl c.args.target.now (patterns_of ps) ty c.in_ok-constructor.constructor c.requires.constructor c.requires.pattern c.requires.constructor.is opened.context opened.type c.result_of-expected.ensures in
     before_upper f
 
@@ -320,7 +320,7 @@ match_constructor-expect-requires-clause-nodes g t c =
     let ps : List Pattern = c.args.fields.now in
     let before : State = record { context = c.constructor_type.new.context; sight = old.sight; spot = old.spot } in
     let ty : Ty = c.requires.constructor.ty in
-    let opened : IsInstance old.context before.context ty c.in_ok-constructor.constructor = c.in_ok-constructor.ensures.ok ty c.requires.constructor.is in
+    let opened : IsFreshInstance old.context before.context ty c.in_ok-constructor.constructor = c.in_ok-constructor.ensures.ok ty c.requires.constructor.is in
     let f : Facing known old before (patterns.constructor c.args.target.now (patterns_of ps)) s c.result_of-expected.result.now (fields_expected old.context (patterns_of ps) ty) = facing_fields known old before s c.result_of-expected.result.now c.requires.ready c.requires.typed refl refl c.args.target.now (patterns_of ps) ty c.in_ok-constructor.constructor c.requires.constructor c.requires.pattern c.requires.constructor.is opened.context opened.type c.result_of-expected.ensures in
     omega arith
 
@@ -332,7 +332,7 @@ match_constructor-returns-in_err-expect-clause-err g t c =
     let ps : List Pattern = c.args.fields.now in
     let before : State = record { context = c.constructor_type.new.context; sight = old.sight; spot = old.spot } in
     let ty : Ty = c.requires.constructor.ty in
-    let opened : IsInstance old.context before.context ty c.in_ok-constructor.constructor = c.in_ok-constructor.ensures.ok ty c.requires.constructor.is in
+    let opened : IsFreshInstance old.context before.context ty c.in_ok-constructor.constructor = c.in_ok-constructor.ensures.ok ty c.requires.constructor.is in
     let f : Facing known old before (patterns.constructor c.args.target.now (patterns_of ps)) s c.result_of-expected.result.now (fields_expected old.context (patterns_of ps) ty) = facing_fields known old before s c.result_of-expected.result.now c.requires.ready c.requires.typed refl refl c.args.target.now (patterns_of ps) ty c.in_ok-constructor.constructor c.requires.constructor c.requires.pattern c.requires.constructor.is opened.context opened.type c.result_of-expected.ensures in
     let p = err_from_is_err_and c.from_residual-in_err-expect.result c.from_residual-in_err-expect.ensures.1 in
     rw (p.1, p.2) (facing_refused f _ c.in_err-expect.ensures.err)
@@ -345,7 +345,7 @@ match_constructor-match_each-requires g t c κs within =
     let ps : List Pattern = c.args.fields.now in
     let before : State = record { context = c.constructor_type.new.context; sight = old.sight; spot = old.spot } in
     let ty : Ty = c.requires.constructor.ty in
-    let opened : IsInstance old.context before.context ty c.in_ok-constructor.constructor = c.in_ok-constructor.ensures.ok ty c.requires.constructor.is in
+    let opened : IsFreshInstance old.context before.context ty c.in_ok-constructor.constructor = c.in_ok-constructor.ensures.ok ty c.requires.constructor.is in
     let f : Facing known old before (patterns.constructor c.args.target.now (patterns_of ps)) s c.result_of-expected.result.now (fields_expected old.context (patterns_of ps) ty) = facing_fields known old before s c.result_of-expected.result.now c.requires.ready c.requires.typed refl refl c.args.target.now (patterns_of ps) ty c.in_ok-constructor.constructor c.requires.constructor c.requires.pattern c.requires.constructor.is opened.context opened.type c.result_of-expected.ensures in
     let mid : State = c.expect.new.state in
     let h : Passing known old before mid (patterns.constructor c.args.target.now (patterns_of ps)) s c.result_of-expected.result.now (fields_expected old.context (patterns_of ps) ty) = record { facing = f; below = c.in_ok-expect.ensures.ok; sight = c.in_ok-expect.ensures.sight; spot = c.in_ok-expect.ensures.spot } in
@@ -365,7 +365,7 @@ match_constructor-returns-in_err-match_each-clause-err g t c =
     let ps : List Pattern = c.args.fields.now in
     let before : State = record { context = c.constructor_type.new.context; sight = old.sight; spot = old.spot } in
     let ty : Ty = c.requires.constructor.ty in
-    let opened : IsInstance old.context before.context ty c.in_ok-constructor.constructor = c.in_ok-constructor.ensures.ok ty c.requires.constructor.is in
+    let opened : IsFreshInstance old.context before.context ty c.in_ok-constructor.constructor = c.in_ok-constructor.ensures.ok ty c.requires.constructor.is in
     let f : Facing known old before (patterns.constructor c.args.target.now (patterns_of ps)) s c.result_of-expected.result.now (fields_expected old.context (patterns_of ps) ty) = facing_fields known old before s c.result_of-expected.result.now c.requires.ready c.requires.typed refl refl c.args.target.now (patterns_of ps) ty c.in_ok-constructor.constructor c.requires.constructor c.requires.pattern c.requires.constructor.is opened.context opened.type c.result_of-expected.ensures in
     let mid : State = c.expect.new.state in
     let h : Passing known old before mid (patterns.constructor c.args.target.now (patterns_of ps)) s c.result_of-expected.result.now (fields_expected old.context (patterns_of ps) ty) = record { facing = f; below = c.in_ok-expect.ensures.ok; sight = c.in_ok-expect.ensures.sight; spot = c.in_ok-expect.ensures.spot } in
@@ -384,7 +384,7 @@ match_constructor-returns-clause-ok g t c =
     let ps : List Pattern = c.args.fields.now in
     let before : State = record { context = c.constructor_type.new.context; sight = old.sight; spot = old.spot } in
     let ty : Ty = c.requires.constructor.ty in
-    let opened : IsInstance old.context before.context ty c.in_ok-constructor.constructor = c.in_ok-constructor.ensures.ok ty c.requires.constructor.is in
+    let opened : IsFreshInstance old.context before.context ty c.in_ok-constructor.constructor = c.in_ok-constructor.ensures.ok ty c.requires.constructor.is in
     let f : Facing known old before (patterns.constructor c.args.target.now (patterns_of ps)) s c.result_of-expected.result.now (fields_expected old.context (patterns_of ps) ty) = facing_fields known old before s c.result_of-expected.result.now c.requires.ready c.requires.typed refl refl c.args.target.now (patterns_of ps) ty c.in_ok-constructor.constructor c.requires.constructor c.requires.pattern c.requires.constructor.is opened.context opened.type c.result_of-expected.ensures in
     let mid : State = c.expect.new.state in
     let h : Passing known old before mid (patterns.constructor c.args.target.now (patterns_of ps)) s c.result_of-expected.result.now (fields_expected old.context (patterns_of ps) ty) = record { facing = f; below = c.in_ok-expect.ensures.ok; sight = c.in_ok-expect.ensures.sight; spot = c.in_ok-expect.ensures.spot } in
@@ -402,7 +402,7 @@ match_constructor-returns-then-fields-len-clause-err g t c =
     let ps : List Pattern = c.args.fields.now in
     let before : State = record { context = c.constructor_type.new.context; sight = old.sight; spot = old.spot } in
     let ty : Ty = c.requires.constructor.ty in
-    let opened : IsInstance old.context before.context ty c.in_ok-constructor.constructor = c.in_ok-constructor.ensures.ok ty c.requires.constructor.is in
+    let opened : IsFreshInstance old.context before.context ty c.in_ok-constructor.constructor = c.in_ok-constructor.ensures.ok ty c.requires.constructor.is in
     let f : Facing known old before (patterns.constructor c.args.target.now (patterns_of ps)) s c.result_of-expected.result.now (fields_expected old.context (patterns_of ps) ty) = facing_fields known old before s c.result_of-expected.result.now c.requires.ready c.requires.typed refl refl c.args.target.now (patterns_of ps) ty c.in_ok-constructor.constructor c.requires.constructor c.requires.pattern c.requires.constructor.is opened.context opened.type c.result_of-expected.ensures in
     let mid : State = c.expect.new.state in
     let h : Passing known old before mid (patterns.constructor c.args.target.now (patterns_of ps)) s c.result_of-expected.result.now (fields_expected old.context (patterns_of ps) ty) = record { facing = f; below = c.in_ok-expect.ensures.ok; sight = c.in_ok-expect.ensures.sight; spot = c.in_ok-expect.ensures.spot } in
