@@ -27,24 +27,24 @@ module _ (known : Known) (scope : Scope) where
   unfolding body_scope
   step_first (step.Lambda ps b) e s os =
       let body : Result (Placed Term) Fault = block_meaning known (in_block (under (map param_binder ps.items) scope)) None b in
-      through body (λ x. (spec.with_atom s (lambdas_over ps.items x), os)) (λ r. expr_meaning known scope e r.0 r.1)
-      ∙ ap (λ m. m >>= λ r. expr_meaning known scope e r.0 r.1) (through body (lambdas_over ps.items) (λ x. Ok (spec.with_atom s x, os)))
-  step_first (step.Atom a) e s os = through (spec.atom_meaning known scope (atom_of a)) (λ x. (spec.with_atom s x, os)) (λ r. expr_meaning known scope e r.0 r.1)
+      through body (λ x. (spec.with_atom s (spec.form (lambdas_over ps.items x)), os)) (λ r. expr_meaning known scope e r.0 r.1)
+      ∙ ap (λ m. m >>= λ r. expr_meaning known scope e r.0 r.1) (through body (lambdas_over ps.items) (λ x. Ok (spec.with_atom s (spec.form x), os)))
+  step_first (step.Atom a) e s os = through (spec.atom_meaning known scope (atom_of a)) (λ x. (spec.with_atom s (spec.atom_start (atom_of a), x), os)) (λ r. expr_meaning known scope e r.0 r.1)
   step_first (step.Operator w) e s os = through (spec.word_meaning known scope w) (λ x. (spec.behind_operator s x, os)) (λ r. expr_meaning known scope e r.0 r.1)
   step_first step.And e s os = refl
   step_first step.Or e s os = refl
   step_first (step.If p) e s os = refl
   step_first (step.Then b c) e s os =
       through_both (block_meaning known (in_block scope) None b) (block_meaning known (in_block scope) None c)
-      (λ x y. (spec.with_atom (innermost os).1 (spec.conditional_at (innermost os).0 (whole_of s) x y), others os)) (λ r. expr_meaning known scope e r.0 r.1)
+      (λ x y. (spec.with_atom (innermost os).1 (spec.form (spec.conditional_at (innermost os).0 (whole_of s).1 x y)), others os)) (λ r. expr_meaning known scope e r.0 r.1)
   step_first (step.Match p) e s os = refl
   step_first (step.With cs) e s os =
-      through (cases_meaning known scope (cases_of cs.items)) (λ x. (spec.with_atom (innermost os).1 (spec.match_at (innermost os).0 (whole_of s) x), others os))
+      through (cases_meaning known scope (cases_of cs.items)) (λ x. (spec.with_atom (innermost os).1 (spec.form (spec.match_at (innermost os).0 (whole_of s).1 x)), others os))
       (λ r. expr_meaning known scope e r.0 r.1)
   step_first (step.Cases p cs) e s os =
-      through (cases_meaning known (under (None ∷ []) scope) (cases_of cs.items)) (λ x. (spec.with_atom s (spec.cases_at p x), os)) (λ r. expr_meaning known scope e r.0 r.1)
+      through (cases_meaning known (under (None ∷ []) scope) (cases_of cs.items)) (λ x. (spec.with_atom s (spec.form (spec.cases_at p x)), os)) (λ r. expr_meaning known scope e r.0 r.1)
   step_first (step.Let p b) e s os =
-      through (block_meaning known (in_block scope) None b) (λ x. (spec.with_atom s x, os)) (λ r. expr_meaning known scope e r.0 r.1)
+      through (block_meaning known (in_block scope) None b) (λ x. (spec.with_atom s (p, x), os)) (λ r. expr_meaning known scope e r.0 r.1)
 
   -- the steps from one on
   pub next_step : (ss : List Step) (i : ℕ) (st : Step) (s : Parts) (os : Outer) → i < length ss → st ≡ get_or ss i st

@@ -12,12 +12,13 @@ use Rattle.uc_scratch.specs.declared.written.Param.{Param}
 use Rattle.uc_scratch.specs.ExprGrammar.{head_name}
 use Rattle.uc_scratch.specs.NameFaults.{head_place}
 use Rattle.uc_meaning.specs.Placed.{Placed}
-use Rattle.uc_meaning.specs.ExprMeanings.{Scope, Signed, Parts, Outer, param_place}
+use Rattle.uc_meaning.specs.ExprMeanings.{Scope, Signed, Operand, Parts, Outer, param_place}
 use Rattle.uc_signatures.specs.declared.placed.Placed as seen
 use Rattle.uc_signatures.specs.PlacedViews.{placed_of}
 use Rattle.uc_bodies.specs.declared.signed.Signed as kept
 use Rattle.uc_bodies.specs.declared.params.Params.{Params}
 use Rattle.uc_bodies.specs.declared.params.Params.TheVariants as params
+use Rattle.uc_bodies.specs.declared.operands.Operand as kept_operands
 use Rattle.uc_bodies.specs.declared.parts.Parts as kept_parts
 use Rattle.uc_bodies.specs.declared.parts.Outside.{Outside}
 
@@ -57,13 +58,17 @@ placed_terms p = (terms_of p.tree.items, p.places)
 abbrev pub placed_cases : {A : Type 0} → seen.Placed (Vec Case A) → Placed Cases
 placed_cases p = (cases_of p.tree.items, p.places)
 
+-- a term and where it begins
+abbrev pub operand_of : kept_operands.Operand → Operand
+operand_of a = (a.start, placed_of a.term)
+
 -- what has been read of an expression
 abbrev pub parts_of : kept_parts.Parts → Parts
 parts_of s = record {
-  ors = option_map placed_of s.ors;
-  ands = option_map placed_of s.ands;
-  half = option_map placed_of s.half;
-  atoms = option_map placed_of s.atoms;
+  ors = option_map operand_of s.ors;
+  ands = option_map operand_of s.ands;
+  half = option_map operand_of s.half;
+  atoms = option_map operand_of s.atoms;
 }
 
 -- the expressions round it, the innermost first

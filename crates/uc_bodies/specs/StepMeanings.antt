@@ -19,7 +19,7 @@ use Rattle.uc_meaning.specs.Placed.{Placed}
 use Rattle.uc_meaning.specs.Results.{◌>>=◌}
 use Rattle.uc_meaning.specs.TypeMeanings.{signature_meaning}
 use Rattle.uc_meaning.specs.PatternMeanings.{pattern_meaning}
-use Rattle.uc_meaning.specs.ExprMeanings.{Scope, Signed, Parts, Outer, no_parts, innermost, others, under, in_block, pattern_binders, reference_place, signed_by, with_atom, behind_operator, behind_and, behind_or, whole_of, conditional_at, match_at, cases_at, word_meaning, atom_meaning, expr_meaning, cases_meaning, block_meaning, bound_meaning}
+use Rattle.uc_meaning.specs.ExprMeanings.{Scope, Signed, Parts, Outer, no_parts, innermost, others, under, in_block, pattern_binders, reference_place, signed_by, form, atom_start, with_atom, behind_operator, behind_and, behind_or, whole_of, conditional_at, match_at, cases_at, word_meaning, atom_meaning, expr_meaning, cases_meaning, block_meaning, bound_meaning}
 use Rattle.uc_bodies.specs.BodyViews.{signed_of}
 use Rattle.uc_bodies.specs.declared.runs.Run.{Run}
 use Rattle.uc_bodies.specs.declared.runs.Run.TheVariants as run
@@ -34,20 +34,20 @@ signing_meaning known scope h t = signature_meaning known scope.usings scope.var
 
 -- the parts of the innermost expression behind a step, and the expressions round it
 abbrev pub step_meaning : Known → Scope → Step → Parts → Outer → Result (Parts × Outer) Fault
-step_meaning known scope (step.Lambda ps b) s os = bound_meaning known scope None ps.items b >>= λ x. Ok (with_atom s x, os)
-step_meaning known scope (step.Atom a) s os = atom_meaning known scope (atom_of a) >>= λ x. Ok (with_atom s x, os)
+step_meaning known scope (step.Lambda ps b) s os = bound_meaning known scope None ps.items b >>= λ x. Ok (with_atom s (form x), os)
+step_meaning known scope (step.Atom a) s os = atom_meaning known scope (atom_of a) >>= λ x. Ok (with_atom s (atom_start (atom_of a), x), os)
 step_meaning known scope (step.Operator w) s os = word_meaning known scope w >>= λ x. Ok (behind_operator s x, os)
 step_meaning known scope step.And s os = Ok (behind_and s, os)
 step_meaning known scope step.Or s os = Ok (behind_or s, os)
 step_meaning known scope (step.If p) s os = Ok (no_parts, (p, s) ∷ os)
 step_meaning known scope (step.Then b c) s os =
     block_meaning known (in_block scope) None b >>= λ x. block_meaning known (in_block scope) None c >>= λ y.
-    Ok (with_atom (innermost os).1 (conditional_at (innermost os).0 (whole_of s) x y), others os)
+    Ok (with_atom (innermost os).1 (form (conditional_at (innermost os).0 (whole_of s).1 x y)), others os)
 step_meaning known scope (step.Match p) s os = Ok (no_parts, (p, s) ∷ os)
 step_meaning known scope (step.With cs) s os =
-    cases_meaning known scope (cases_of cs.items) >>= λ x. Ok (with_atom (innermost os).1 (match_at (innermost os).0 (whole_of s) x), others os)
-step_meaning known scope (step.Cases p cs) s os = cases_meaning known (under (None ∷ []) scope) (cases_of cs.items) >>= λ x. Ok (with_atom s (cases_at p x), os)
-step_meaning known scope (step.Let p b) s os = block_meaning known (in_block scope) None b >>= λ x. Ok (with_atom s x, os)
+    cases_meaning known scope (cases_of cs.items) >>= λ x. Ok (with_atom (innermost os).1 (form (match_at (innermost os).0 (whole_of s).1 x)), others os)
+step_meaning known scope (step.Cases p cs) s os = cases_meaning known (under (None ∷ []) scope) (cases_of cs.items) >>= λ x. Ok (with_atom s (form (cases_at p x)), os)
+step_meaning known scope (step.Let p b) s os = block_meaning known (in_block scope) None b >>= λ x. Ok (with_atom s (p, x), os)
 
 -- the meaning of a guard or none
 abbrev pub guard_meaning : Known → Scope → Option Expr → Result (Option (Placed Term)) Fault

@@ -13,6 +13,7 @@ use crate::blocks::{resolve_block, resolve_under};
 use crate::lists::{no_cases, no_terms, push_case, push_term};
 use crate::locals::Locals;
 use crate::nodes::{annotated_at, case_of, list_at, tuple_at};
+use crate::operands::{Operand, atom_start};
 use crate::params::Params;
 use crate::parts::{Outside, Parts};
 use crate::words::{literal_at, resolve_reference, resolve_word, unit_at};
@@ -62,9 +63,13 @@ fn pass_step<'a, M: Meanings>(
         Step::Lambda(params, body) => {
             let params = Params::Prefix(params);
             let term = resolve_under(alloc, meanings, locals, &None, params, body)?;
-            parts.with_atom(alloc, term)
+            parts.with_form(alloc, term)
         }
-        Step::Atom(atom) => parts.with_atom(alloc, resolve_atom(alloc, meanings, locals, atom)?),
+        Step::Atom(atom) => {
+            let term = resolve_atom(alloc, meanings, locals, atom)?;
+            let start = atom_start(atom);
+            parts.with_atom(alloc, Operand { start, term })
+        }
         Step::Operator(w) => {
             parts.behind_operator(alloc, resolve_word(alloc, meanings, locals, w)?)
         }
@@ -86,7 +91,11 @@ fn pass_step<'a, M: Meanings>(
             locals.leave(1);
             parts.with_cases(alloc, *place, cases)
         }
-        Step::Let(_, body) => parts.with_atom(alloc, resolve_block(alloc, meanings, locals, body)?),
+        Step::Let(place, body) => {
+            let term = resolve_block(alloc, meanings, locals, body)?;
+            let start = *place;
+            parts.with_atom(alloc, Operand { start, term })
+        }
     }
 }
 

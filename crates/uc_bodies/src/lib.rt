@@ -7,6 +7,7 @@ mod fronts;
 mod lists;
 mod locals;
 mod nodes;
+mod operands;
 mod params;
 mod parts;
 mod runs;

@@ -2,7 +2,6 @@
 ghost use Rattle.std.specs.Prelude.{◌≡◌, [], ◌∷◌, ◌++◌, Ok, IfOk};
 ghost use Rattle.std.specs.Option.{option_map};
 ghost use Rattle.uc_tree.specs.Terms as trees;
-ghost use Rattle.uc_meaning.specs.Placed.{first_place};
 ghost use Rattle.uc_meaning.specs.Results.{Gives};
 ghost use Rattle.uc_meaning.specs.ExprMeanings as spec;
 ghost use Rattle.uc_signatures.specs.PlacedViews.{placed_of};
@@ -50,70 +49,43 @@ pub fn lambda_at(
     })
 }
 
-/// An application, at the place of what is applied.
-pub fn applied(
+pub fn applied_at(
     alloc: Global,
+    place: Place,
     function: Placed<Term>,
     argument: Placed<Term>,
 ) -> Result<Placed<Term>, AllocError>
-    ensures { IfOk result (λ t. placed_of t ≡ spec.applied (placed_of function) (placed_of argument)) }
+    ensures { IfOk result
+        (λ t. placed_of t ≡ spec.applied_at place (placed_of function) (placed_of argument)) }
 {
-    let place = function.places.first();
     Ok(Placed {
         tree: Term::apply(alloc, function.tree, argument.tree)?,
         places: places_over(place, function.places, argument.places)?,
     })
 }
 
-/// An operator applied to its left side, at the place of that side.
-pub fn operator_applied(
+pub fn and_at(
     alloc: Global,
-    operator: Placed<Term>,
-    left: Placed<Term>,
-) -> Result<Placed<Term>, AllocError>
-    ensures { IfOk result (λ t. placed_of t ≡ spec.operator_applied (placed_of operator) (placed_of left)) }
-{
-    let place = left.places.first();
-    Ok(Placed {
-        tree: Term::apply(alloc, operator.tree, left.tree)?,
-        places: places_over(place, operator.places, left.places)?,
-    })
-}
-
-/// An operator with its left side applied to its right side.
-pub fn operator_finished(
-    alloc: Global,
-    half: Placed<Term>,
-    right: Placed<Term>,
-) -> Result<Placed<Term>, AllocError>
-    ensures { IfOk result
-        (λ t. placed_of t ≡ spec.operator_finished (first_place half.places) (placed_of half) (placed_of right)) }
-{
-    applied(alloc, half, right)
-}
-
-pub fn and_over(
-    alloc: Global,
+    place: Place,
     left: Placed<Term>,
     right: Placed<Term>,
 ) -> Result<Placed<Term>, AllocError>
-    ensures { IfOk result (λ t. placed_of t ≡ spec.and_over (placed_of left) (placed_of right)) }
+    ensures { IfOk result (λ t. placed_of t ≡ spec.and_at place (placed_of left) (placed_of right)) }
 {
-    let place = left.places.first();
     Ok(Placed {
         tree: Term::and(alloc, left.tree, right.tree)?,
         places: places_over(place, left.places, right.places)?,
     })
 }
 
-pub fn or_over(
+pub fn or_at(
     alloc: Global,
+    place: Place,
     left: Placed<Term>,
     right: Placed<Term>,
 ) -> Result<Placed<Term>, AllocError>
-    ensures { IfOk result (λ t. placed_of t ≡ spec.or_over (placed_of left) (placed_of right)) }
+    ensures { IfOk result (λ t. placed_of t ≡ spec.or_at place (placed_of left) (placed_of right)) }
 {
-    let place = left.places.first();
     Ok(Placed {
         tree: Term::or(alloc, left.tree, right.tree)?,
         places: places_over(place, left.places, right.places)?,

@@ -1,16 +1,13 @@
 //! The parts of an expression that is being read.
 ghost use Rattle.std.specs.Prelude.{◌≡◌, [], ◌∷◌, Ok, OnOk, IfOk};
-ghost use Rattle.std.specs.Option.{option_map};
 ghost use Rattle.uc_meaning.specs.ExprMeanings as spec;
 ghost use Rattle.uc_meaning.specs.ExprMeanings.{innermost, others};
 ghost use Rattle.uc_meaning.specs.Results.{Gives};
 ghost use Rattle.uc_signatures.specs.PlacedViews.{placed_of};
-ghost use Rattle.uc_bodies.specs.BodyViews.{parts_of, outer_of, with_outer, placed_cases};
+ghost use Rattle.uc_bodies.specs.BodyViews.{operand_of, parts_of, outer_of, with_outer, placed_cases};
 
-use crate::nodes::{
-    and_over, applied, cases_at, conditional_at, leaf, match_at, operator_applied,
-    operator_finished, or_over,
-};
+use crate::nodes::{cases_at, conditional_at, match_at};
+use crate::operands::{FRONT, Operand, and_if, applied_if, or_if, or_nothing};
 use std::alloc::{AllocError, Global};
 use uc_base::{Fault, Place};
 use uc_signatures::Placed;
@@ -20,84 +17,10 @@ use uc_tree::{Case, Term};
 /// and the application behind these.
 #[derive(Drop)]
 pub struct Parts {
-    ors: Option<Placed<Term>>,
-    ands: Option<Placed<Term>>,
-    half: Option<Placed<Term>>,
-    atoms: Option<Placed<Term>>,
-}
-
-/// The place of a text's first character.
-const FRONT: Place = Place { line: 1, column: 1 };
-
-/// The unit where nothing has been read.
-#[tactic(auto, unfolding(uc_meaning::specs::ExprMeanings::or_nothing))]
-fn or_nothing(alloc: Global, term: Option<Placed<Term>>) -> Result<Placed<Term>, AllocError>
-    ensures { IfOk result (λ t. placed_of t ≡ spec.or_nothing (option_map placed_of term)) }
-{
-    match term {
-        None => leaf(alloc, Term::unit(), FRONT),
-        Some(term) => Ok(term),
-    }
-}
-
-#[tactic(auto, unfolding(uc_meaning::specs::ExprMeanings::applied_if))]
-fn applied_if(
-    alloc: Global,
-    before: Option<Placed<Term>>,
-    part: Placed<Term>,
-) -> Result<Placed<Term>, AllocError>
-    ensures { IfOk result
-        (λ t. placed_of t ≡ spec.applied_if (option_map placed_of before) (placed_of part)) }
-{
-    match before {
-        None => Ok(part),
-        Some(before) => applied(alloc, before, part),
-    }
-}
-
-#[tactic(auto, unfolding(uc_meaning::specs::ExprMeanings::finished_if))]
-fn finished_if(
-    alloc: Global,
-    before: Option<Placed<Term>>,
-    part: Placed<Term>,
-) -> Result<Placed<Term>, AllocError>
-    ensures { IfOk result
-        (λ t. placed_of t ≡ spec.finished_if (option_map placed_of before) (placed_of part)) }
-{
-    match before {
-        None => Ok(part),
-        Some(before) => operator_finished(alloc, before, part),
-    }
-}
-
-#[tactic(auto, unfolding(uc_meaning::specs::ExprMeanings::and_if))]
-fn and_if(
-    alloc: Global,
-    before: Option<Placed<Term>>,
-    part: Placed<Term>,
-) -> Result<Placed<Term>, AllocError>
-    ensures { IfOk result
-        (λ t. placed_of t ≡ spec.and_if (option_map placed_of before) (placed_of part)) }
-{
-    match before {
-        None => Ok(part),
-        Some(before) => and_over(alloc, before, part),
-    }
-}
-
-#[tactic(auto, unfolding(uc_meaning::specs::ExprMeanings::or_if))]
-fn or_if(
-    alloc: Global,
-    before: Option<Placed<Term>>,
-    part: Placed<Term>,
-) -> Result<Placed<Term>, AllocError>
-    ensures { IfOk result
-        (λ t. placed_of t ≡ spec.or_if (option_map placed_of before) (placed_of part)) }
-{
-    match before {
-        None => Ok(part),
-        Some(before) => or_over(alloc, before, part),
-    }
+    ors: Option<Operand>,
+    ands: Option<Operand>,
+    half: Option<Operand>,
+    atoms: Option<Operand>,
 }
 
 impl Parts {
@@ -114,11 +37,18 @@ impl Parts {
 
     /// An atom or a form behind the atoms before it.
     #[tactic(auto, unfolding(uc_meaning::specs::ExprMeanings::with_atom))]
-    pub fn with_atom(mut self, alloc: Global, atom: Placed<Term>) -> Result<Parts, Fault>
-        ensures { Gives parts_of result (Ok (spec.with_atom (parts_of self) (placed_of atom))) }
+    pub fn with_atom(mut self, alloc: Global, atom: Operand) -> Result<Parts, Fault>
+        ensures { Gives parts_of result (Ok (spec.with_atom (parts_of self) (operand_of atom))) }
     {
         self.atoms = Some(applied_if(alloc, self.atoms.take(), atom)?);
         Ok(self)
+    }
+
+    /// The same with a form.
+    pub fn with_form(self, alloc: Global, form: Placed<Term>) -> Result<Parts, Fault>
+        ensures { Gives parts_of result (Ok (spec.with_atom (parts_of self) (spec.form (placed_of form)))) }
+    {
+        self.with_atom(alloc, Operand::form(form))
     }
 
     /// The same with a lambda over a match on its variable.
@@ -129,26 +59,26 @@ impl Parts {
         cases: Placed<Vec<Case>>,
     ) -> Result<Parts, Fault>
         ensures { Gives parts_of result
-            (Ok (spec.with_atom (parts_of self) (spec.cases_at place (placed_cases cases)))) }
+            (Ok (spec.with_atom (parts_of self) (spec.form (spec.cases_at place (placed_cases cases))))) }
     {
         let term = cases_at(alloc, place, cases)?;
-        self.with_atom(alloc, term)
+        self.with_form(alloc, term)
     }
 
     /// Takes the operands up to here.
     #[tactic(auto, unfolding(uc_meaning::specs::ExprMeanings::infix_of))]
-    fn take_infix(&mut self, alloc: Global) -> Result<Placed<Term>, AllocError>
-        ensures term { IfOk result (λ t. placed_of t ≡ spec.infix_of (parts_of self.old)) }
+    fn take_infix(&mut self, alloc: Global) -> Result<Operand, AllocError>
+        ensures operand { IfOk result (λ a. operand_of a ≡ spec.infix_of (parts_of self.old)) }
         ensures rest { OnOk result (self.new ≡ record self.old { half = None; atoms = None }) }
     {
         let operand = or_nothing(alloc, self.atoms.take())?;
-        finished_if(alloc, self.half.take(), operand)
+        applied_if(alloc, self.half.take(), operand)
     }
 
     /// Takes the operands of `&&` up to here.
     #[tactic(auto, unfolding(uc_meaning::specs::ExprMeanings::and_of))]
-    fn take_and(&mut self, alloc: Global) -> Result<Placed<Term>, AllocError>
-        ensures term { IfOk result (λ t. placed_of t ≡ spec.and_of (parts_of self.old)) }
+    fn take_and(&mut self, alloc: Global) -> Result<Operand, AllocError>
+        ensures operand { IfOk result (λ a. operand_of a ≡ spec.and_of (parts_of self.old)) }
         ensures rest { OnOk result (self.new
             ≡ record { ors = self.old.ors; ands = None; half = None; atoms = None }) }
     {
@@ -158,8 +88,8 @@ impl Parts {
 
     /// Takes the whole expression up to here.
     #[tactic(auto, unfolding(uc_meaning::specs::ExprMeanings::whole_of))]
-    fn take_whole(mut self, alloc: Global) -> Result<Placed<Term>, AllocError>
-        ensures { IfOk result (λ t. placed_of t ≡ spec.whole_of (parts_of self)) }
+    fn take_whole(mut self, alloc: Global) -> Result<Operand, AllocError>
+        ensures { IfOk result (λ a. operand_of a ≡ spec.whole_of (parts_of self)) }
     {
         let operands = self.take_and(alloc)?;
         or_if(alloc, self.ors.take(), operands)
@@ -170,7 +100,7 @@ impl Parts {
         ensures { Gives parts_of result (Ok (spec.behind_operator (parts_of self) (placed_of operator))) }
     {
         let left = self.take_infix(alloc)?;
-        self.half = Some(operator_applied(alloc, operator, left)?);
+        self.half = Some(left.under_operator(alloc, operator)?);
         Ok(self)
     }
 
@@ -198,9 +128,9 @@ impl Parts {
 
     /// The whole expression.
     pub fn whole(self, alloc: Global) -> Result<Placed<Term>, Fault>
-        ensures { Gives placed_of result (Ok (spec.whole_of (parts_of self))) }
+        ensures { Gives placed_of result (Ok (spec.whole_of (parts_of self)).1) }
     {
-        Ok(self.take_whole(alloc)?)
+        Ok(self.take_whole(alloc)?.term)
     }
 }
 
@@ -259,15 +189,15 @@ impl Outside {
     ) -> Result<Parts, Fault>
         ensures { Gives (with_outer self.new) result
             (Ok (
-              spec.with_atom (innermost (outer_of self.old)).1 (spec.conditional_at (innermost (outer_of self.old)).0
-                  (spec.whole_of (parts_of condition)) (placed_of consequent) (placed_of alternative)),
+              spec.with_atom (innermost (outer_of self.old)).1 (spec.form (spec.conditional_at (innermost (outer_of self.old)).0
+                  (spec.whole_of (parts_of condition)).1 (placed_of consequent) (placed_of alternative))),
               others (outer_of self.old),
             )) }
     {
-        let condition = condition.take_whole(alloc)?;
+        let condition = condition.take_whole(alloc)?.term;
         let Opened { place, parts } = self.pop();
         let form = conditional_at(alloc, place, condition, consequent, alternative)?;
-        parts.with_atom(alloc, form)
+        parts.with_form(alloc, form)
     }
 
     /// The parts round a match behind its cases.
@@ -279,14 +209,14 @@ impl Outside {
     ) -> Result<Parts, Fault>
         ensures { Gives (with_outer self.new) result
             (Ok (
-              spec.with_atom (innermost (outer_of self.old)).1 (spec.match_at (innermost (outer_of self.old)).0
-                  (spec.whole_of (parts_of subject)) (placed_cases cases)),
+              spec.with_atom (innermost (outer_of self.old)).1 (spec.form (spec.match_at (innermost (outer_of self.old)).0
+                  (spec.whole_of (parts_of subject)).1 (placed_cases cases))),
               others (outer_of self.old),
             )) }
     {
-        let subject = subject.take_whole(alloc)?;
+        let subject = subject.take_whole(alloc)?.term;
         let Opened { place, parts } = self.pop();
         let form = match_at(alloc, place, subject, cases)?;
-        parts.with_atom(alloc, form)
+        parts.with_form(alloc, form)
     }
 }

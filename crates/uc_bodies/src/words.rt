@@ -34,7 +34,7 @@ pub fn resolve_word<M: Meanings>(
     }
 }
 
-fn reference_place(reference: &Reference) -> Place
+pub fn reference_place(reference: &Reference) -> Place
     ensures { result ≡ spec.reference_place reference.now }
 {
     match reference {

@@ -81,23 +81,14 @@ reference_place (written_reference.Builtin w) = w.place
 
 -- ---- nodes
 
--- an application, `&&` and `||` stand at the place of their first part
-abbrev pub applied : Placed Term → Placed Term → Placed Term
-applied f a = (trees.apply f.0 a.0, first_place f.1 ∷ f.1 ++ a.1)
+abbrev pub applied_at : Place → Placed Term → Placed Term → Placed Term
+applied_at p f a = (trees.apply f.0 a.0, p ∷ f.1 ++ a.1)
 
--- an operator with its left side: it stands at the place of that side, and the operator's own node comes first in the text
-abbrev pub operator_applied : Placed Term → Placed Term → Placed Term
-operator_applied op a = (trees.apply op.0 a.0, first_place a.1 ∷ op.1 ++ a.1)
+abbrev pub and_at : Place → Placed Term → Placed Term → Placed Term
+and_at p a b = (trees.and a.0 b.0, p ∷ a.1 ++ b.1)
 
--- the same with its right side
-abbrev pub operator_finished : Place → Placed Term → Placed Term → Placed Term
-operator_finished p half b = (trees.apply half.0 b.0, p ∷ half.1 ++ b.1)
-
-abbrev pub and_over : Placed Term → Placed Term → Placed Term
-and_over a b = (trees.and a.0 b.0, first_place a.1 ∷ a.1 ++ b.1)
-
-abbrev pub or_over : Placed Term → Placed Term → Placed Term
-or_over a b = (trees.or a.0 b.0, first_place a.1 ∷ a.1 ++ b.1)
+abbrev pub or_at : Place → Placed Term → Placed Term → Placed Term
+or_at p a b = (trees.or a.0 b.0, p ∷ a.1 ++ b.1)
 
 abbrev pub conditional_at : Place → Placed Term → Placed Term → Placed Term → Placed Term
 conditional_at p a b c = (trees.conditional a.0 b.0 c.0, p ∷ a.1 ++ b.1 ++ c.1)
@@ -123,65 +114,87 @@ case_before x b cs = (trees.case x.0 b.0 cs.0, x.1 ++ b.1 ++ cs.1)
 abbrev pub guarded_before : Placed TreePattern → Placed Term → Placed Term → Placed TreeCases → Placed TreeCases
 guarded_before x g b cs = (trees.guarded x.0 g.0 b.0 cs.0, x.1 ++ g.1 ++ b.1 ++ cs.1)
 
+-- ---- operands
+
+-- A term as a part of a greater expression, with the place where it begins: that of its first token, which may be a bracket round it.
+-- An application, an operator with its sides, `&&` and `||` stand where their first part begins.
+abbrev pub Operand : Type 0
+Operand = Place × Placed Term
+
+-- a form begins at its own node
+abbrev pub form : Placed Term → Operand
+form t = (first_place t.1, t)
+
+-- where an atom begins
+abbrev pub atom_start : Atom → Place
+atom_start (path w) = w.place
+atom_start (bracketed p w) = p
+atom_start (literal l) = l.written.place
+atom_start (reference r) = reference_place r
+atom_start (unit p) = p
+atom_start (group p e) = p
+atom_start (annotated p e t) = p
+atom_start (tuple p es) = p
+atom_start (list p es) = p
+
+-- an operator with its left side; its own node comes first in the text
+abbrev pub operator_over : Placed Term → Operand → Operand
+operator_over op a = (a.0, applied_at a.0 op a.1)
+
 -- ---- the parts of an expression up to here
 
 -- what stands left of `||`, left of `&&`, left of an operator and with it, and the application that is being read
 pub record Parts : Type 0 where
-  pub ors : Option (Placed Term)
-  pub ands : Option (Placed Term)
-  pub half : Option (Placed Term)
-  pub atoms : Option (Placed Term)
+  pub ors : Option Operand
+  pub ands : Option Operand
+  pub half : Option Operand
+  pub atoms : Option Operand
 
 abbrev pub no_parts : Parts
 no_parts = record { ors = None; ands = None; half = None; atoms = None }
 
 -- an expression with nothing in it, which no reading has: the unit
-abbrev pub nothing : Placed Term
-nothing = (trees.unit, first_place [] ∷ [])
+abbrev pub nothing : Operand
+nothing = form (trees.unit, first_place [] ∷ [])
 
-unfoldable pub or_nothing : Option (Placed Term) → Placed Term
+unfoldable pub or_nothing : Option Operand → Operand
 or_nothing None = nothing
-or_nothing (Some t) = t
+or_nothing (Some a) = a
 
 -- what stands before a part, where there is something, applied to it
-unfoldable pub applied_if : Option (Placed Term) → Placed Term → Placed Term
+unfoldable pub applied_if : Option Operand → Operand → Operand
 applied_if None a = a
-applied_if (Some f) a = applied f a
+applied_if (Some f) a = (f.0, applied_at f.0 f.1 a.1)
 
--- the same with an operator and its left side
-unfoldable pub finished_if : Option (Placed Term) → Placed Term → Placed Term
-finished_if None b = b
-finished_if (Some half) b = operator_finished (first_place half.1) half b
-
--- and with the left side of `&&` and of `||`
-unfoldable pub and_if : Option (Placed Term) → Placed Term → Placed Term
+-- the same with the left side of `&&` and of `||`
+unfoldable pub and_if : Option Operand → Operand → Operand
 and_if None b = b
-and_if (Some a) b = and_over a b
+and_if (Some a) b = (a.0, and_at a.0 a.1 b.1)
 
-unfoldable pub or_if : Option (Placed Term) → Placed Term → Placed Term
+unfoldable pub or_if : Option Operand → Operand → Operand
 or_if None b = b
-or_if (Some a) b = or_over a b
+or_if (Some a) b = (a.0, or_at a.0 a.1 b.1)
 
 -- an atom or a form behind the atoms before it: an application
-unfoldable pub with_atom : Parts → Placed Term → Parts
+unfoldable pub with_atom : Parts → Operand → Parts
 with_atom s a = record s { atoms = Some (applied_if s.atoms a) }
 
--- the operands up to here: an operator applied to two
-unfoldable pub infix_of : Parts → Placed Term
-infix_of s = finished_if s.half (or_nothing s.atoms)
+-- the operands up to here: an operator with its left side, applied to its right side
+unfoldable pub infix_of : Parts → Operand
+infix_of s = applied_if s.half (or_nothing s.atoms)
 
 -- an operator behind what stands left of it
 unfoldable pub behind_operator : Parts → Placed Term → Parts
-behind_operator s op = record { ors = s.ors; ands = s.ands; half = Some (operator_applied op (infix_of s)); atoms = None }
+behind_operator s op = record { ors = s.ors; ands = s.ands; half = Some (operator_over op (infix_of s)); atoms = None }
 
-unfoldable pub and_of : Parts → Placed Term
+unfoldable pub and_of : Parts → Operand
 and_of s = and_if s.ands (infix_of s)
 
 unfoldable pub behind_and : Parts → Parts
 behind_and s = record { ors = s.ors; ands = Some (and_of s); half = None; atoms = None }
 
 -- the whole expression up to here
-unfoldable pub whole_of : Parts → Placed Term
+unfoldable pub whole_of : Parts → Operand
 whole_of s = or_if s.ors (and_of s)
 
 unfoldable pub behind_or : Parts → Parts
@@ -231,24 +244,24 @@ binding_over (Some s) p a b = (trees.binding (Some s.type_of.0) a.0 b.0, s.place
 abbrev mutual
   -- The meaning of the steps of an expression, behind parts of it, and inside the conditions and subjects of others.
   pub expr_meaning : Known → Scope → Expr → Parts → Outer → Result (Placed Term) Fault
-  expr_meaning known scope done s os = Ok (whole_of s)
+  expr_meaning known scope done s os = Ok (whole_of s).1
   expr_meaning known scope (lambda ps b e) s os =
-      block_meaning known (in_block (under (map param_binder ps) scope)) None b >>= λ x. expr_meaning known scope e (with_atom s (lambdas_over ps x)) os
-  expr_meaning known scope (atom a e) s os = atom_meaning known scope a >>= λ x. expr_meaning known scope e (with_atom s x) os
+      block_meaning known (in_block (under (map param_binder ps) scope)) None b >>= λ x. expr_meaning known scope e (with_atom s (form (lambdas_over ps x))) os
+  expr_meaning known scope (atom a e) s os = atom_meaning known scope a >>= λ x. expr_meaning known scope e (with_atom s (atom_start a, x)) os
   expr_meaning known scope (operator w e) s os = word_meaning known scope w >>= λ x. expr_meaning known scope e (behind_operator s x) os
   expr_meaning known scope (and e) s os = expr_meaning known scope e (behind_and s) os
   expr_meaning known scope (or e) s os = expr_meaning known scope e (behind_or s) os
   expr_meaning known scope (opens_if p e) s os = expr_meaning known scope e no_parts ((p, s) ∷ os)
   expr_meaning known scope (branches b c e) s os =
       block_meaning known (in_block scope) None b >>= λ x. block_meaning known (in_block scope) None c >>= λ y.
-      expr_meaning known scope e (with_atom (innermost os).1 (conditional_at (innermost os).0 (whole_of s) x y)) (others os)
+      expr_meaning known scope e (with_atom (innermost os).1 (form (conditional_at (innermost os).0 (whole_of s).1 x y))) (others os)
   expr_meaning known scope (opens_match p e) s os = expr_meaning known scope e no_parts ((p, s) ∷ os)
   expr_meaning known scope (with_cases cs e) s os =
-      cases_meaning known scope cs >>= λ x. expr_meaning known scope e (with_atom (innermost os).1 (match_at (innermost os).0 (whole_of s) x)) (others os)
+      cases_meaning known scope cs >>= λ x. expr_meaning known scope e (with_atom (innermost os).1 (form (match_at (innermost os).0 (whole_of s).1 x))) (others os)
   expr_meaning known scope (cases p cs e) s os =
-      cases_meaning known (under (None ∷ []) scope) cs >>= λ x. expr_meaning known scope e (with_atom s (cases_at p x)) os
+      cases_meaning known (under (None ∷ []) scope) cs >>= λ x. expr_meaning known scope e (with_atom s (form (cases_at p x))) os
   expr_meaning known scope (block p b e) s os =
-      block_meaning known (in_block scope) None b >>= λ x. expr_meaning known scope e (with_atom s x) os
+      block_meaning known (in_block scope) None b >>= λ x. expr_meaning known scope e (with_atom s (p, x)) os
 
   -- a bracket alone is no node
   pub atom_meaning : Known → Scope → Atom → Result (Placed Term) Fault

@@ -1,5 +1,6 @@
 -- The meaning of written patterns.
 use Rattle.std.specs.Prelude.{[], ◌∷◌, ◌++◌, Result, Ok}
+use Rattle.uc_base.specs.declared.place.Place.{Place}
 use Rattle.uc_base.specs.declared.fault.Fault.{Fault}
 use Rattle.uc_tree.specs.Patterns as trees
 use Rattle.uc_tree.specs.Patterns.{Pattern as Tree, Patterns as Trees}
@@ -9,15 +10,31 @@ use Rattle.uc_meaning.specs.Results.{◌>>=◌}
 use Rattle.uc_meaning.specs.Candidates.{Usings}
 use Rattle.uc_meaning.specs.Meanings.{Known, con_meaning}
 use Rattle.uc_meaning.specs.Literals.{literal_value}
-use Rattle.uc_meaning.specs.Placed.{Placed, first_place}
+use Rattle.uc_meaning.specs.Placed.{Placed}
 use Rattle.uc_meaning.specs.TypeMeanings.{con_place}
 
--- `+:` and `:+` stand at the place of their left side
-abbrev pub cons_over : Placed Tree → Placed Tree → Placed Tree
-cons_over p q = (trees.cons p.0 q.0, first_place p.1 ∷ p.1 ++ q.1)
+-- where a pattern begins: at its first token, which may be a bracket round it
+abbrev pub atom_start : PatternAtom → Place
+atom_start (any p) = p
+atom_start (variable w) = w.place
+atom_start (named w a) = w.place
+atom_start (literal l) = l.written.place
+atom_start (constant c) = con_place c
+atom_start (unit p) = p
+atom_start (group p t) = p
+atom_start (tuple p ts) = p
+atom_start (list p ts) = p
 
-abbrev pub snoc_over : Placed Tree → Placed Tree → Placed Tree
-snoc_over p q = (trees.snoc p.0 q.0, first_place p.1 ∷ p.1 ++ q.1)
+abbrev pub operand_start : PatternOperand → Place
+operand_start (applied c bs) = con_place c
+operand_start (atom a) = atom_start a
+
+-- `+:` and `:+` stand where their left side begins
+abbrev pub cons_at : Place → Placed Tree → Placed Tree → Placed Tree
+cons_at p x y = (trees.cons x.0 y.0, p ∷ x.1 ++ y.1)
+
+abbrev pub snoc_at : Place → Placed Tree → Placed Tree → Placed Tree
+snoc_at p x y = (trees.snoc x.0 y.0, p ∷ x.1 ++ y.1)
 
 -- a pattern before others
 abbrev pub pattern_before : Placed Tree → Placed Trees → Placed Trees
@@ -27,14 +44,14 @@ abbrev mutual
   -- the meaning of a pattern
   pub pattern_meaning : Known → Usings → Pattern → Result (Placed Tree) Fault
   pattern_meaning known usings (cons a p) =
-      operand_meaning known usings a >>= λ x. pattern_meaning known usings p >>= λ y. Ok (cons_over x y)
-  pattern_meaning known usings (snocs a bs) = operand_meaning known usings a >>= λ x. snocs_meaning known usings x bs
+      operand_meaning known usings a >>= λ x. pattern_meaning known usings p >>= λ y. Ok (cons_at (operand_start a) x y)
+  pattern_meaning known usings (snocs a bs) = operand_meaning known usings a >>= λ x. snocs_meaning known usings (operand_start a) x bs
 
-  -- `:+` associates to the left: what stands before the other operands, and they
-  pub snocs_meaning : Known → Usings → Placed Tree → PatternOperands → Result (Placed Tree) Fault
-  snocs_meaning known usings x no_operand = Ok x
-  snocs_meaning known usings x (more_operands b bs) =
-      operand_meaning known usings b >>= λ y. snocs_meaning known usings (snoc_over x y) bs
+  -- `:+` associates to the left: where the first operand begins, what stands before the other operands, and they
+  pub snocs_meaning : Known → Usings → Place → Placed Tree → PatternOperands → Result (Placed Tree) Fault
+  snocs_meaning known usings p x no_operand = Ok x
+  snocs_meaning known usings p x (more_operands b bs) =
+      operand_meaning known usings b >>= λ y. snocs_meaning known usings p (snoc_at p x y) bs
 
   pub operand_meaning : Known → Usings → PatternOperand → Result (Placed Tree) Fault
   operand_meaning known usings (applied c bs) =

@@ -30,9 +30,22 @@ abbrev pub quantified_at : Place → ℕ → Placed Ty → Placed Ty
 quantified_at p zero t = t
 quantified_at p (suc n) t = quantified_at p n (types.quantified t.0, p ∷ t.1)
 
--- an arrow at the place of its left side
-abbrev pub arrow_over : Placed Ty → Placed Ty → Placed Ty
-arrow_over a b = (types.arrow a.0 b.0, first_place a.1 ∷ a.1 ++ b.1)
+-- where a type begins: at its first token, which may be a bracket round it
+abbrev pub atom_start : TypeAtom → Place
+atom_start (variable w) = w.place
+atom_start (constant c) = con_place c
+atom_start (unit p) = p
+atom_start (group p t) = p
+atom_start (tuple p ts) = p
+atom_start (list p t) = p
+
+abbrev pub operand_start : TypeOperand → Place
+operand_start (applied c bs) = con_place c
+operand_start (atom a) = atom_start a
+
+-- an arrow, where its left side begins
+abbrev pub arrow_at : Place → Placed Ty → Placed Ty → Placed Ty
+arrow_at p a b = (types.arrow a.0 b.0, p ∷ a.1 ++ b.1)
 
 -- a list type, at its bracket
 abbrev pub list_at : Place → Placed Ty → Placed Ty
@@ -53,7 +66,7 @@ abbrev mutual
   type_meaning known usings scope (quantified p ws t) =
       type_meaning known usings (reverse (texts_of ws) ++ scope) t >>= λ x. Ok (quantified_at p (length ws) x)
   type_meaning known usings scope (arrow a t) =
-      type_operand_meaning known usings scope a >>= λ x. type_meaning known usings scope t >>= λ y. Ok (arrow_over x y)
+      type_operand_meaning known usings scope a >>= λ x. type_meaning known usings scope t >>= λ y. Ok (arrow_at (operand_start a) x y)
   type_meaning known usings scope (operand a) = type_operand_meaning known usings scope a
 
   pub type_operand_meaning : Known → Usings → List (List ℕ) → TypeOperand → Result (Placed Ty) Fault

@@ -8,8 +8,8 @@ use Rattle.uc_tree.specs.Terms.{Term, Terms, Cases as TreeCases}
 use Rattle.uc_tree.specs.Nodes.{term_nodes, terms_nodes, cases_nodes}
 use Rattle.uc_scratch.specs.declared.written.Param.{Param}
 use Rattle.uc_scratch.specs.declared.written.Written.{Written}
-use Rattle.uc_meaning.specs.Placed.{Placed, first_place}
-use Rattle.uc_meaning.specs.ExprMeanings.{applied, operator_applied, operator_finished, and_over, or_over, conditional_at, match_at, cases_at, lambdas_over, term_before, case_before, guarded_before, Parts, no_parts, or_nothing, applied_if, finished_if, and_if, or_if, with_atom, infix_of, behind_operator, and_of, behind_and, whole_of, behind_or, Outer, innermost, others, Signed, signature_for, binding_over}
+use Rattle.uc_meaning.specs.Placed.{Placed}
+use Rattle.uc_meaning.specs.ExprMeanings.{applied_at, and_at, or_at, conditional_at, match_at, cases_at, lambdas_over, term_before, case_before, guarded_before, Operand, Parts, no_parts, or_nothing, applied_if, and_if, or_if, with_atom, infix_of, behind_operator, and_of, behind_and, whole_of, behind_or, Outer, innermost, others, Signed, signature_for, binding_over}
 use Rattle.std.specs.Prelude.{Bool, true, false, bytes_eq, if◌then◌else◌}
 use Rattle.uc_resolve.proofs.TypePlaces.{IsTypePlaced}
 use Rattle.uc_resolve.proofs.PatternPlaces.{IsPatternPlaced}
@@ -25,20 +25,14 @@ AreCasesPlaced x = length x.1 ≡ length (cases_nodes x.0)
 
 -- ---- nodes
 
-applied_placed : (f a : Placed Term) → IsTermPlaced f → IsTermPlaced a → IsTermPlaced (applied f a)
-applied_placed f a h k = simp length-append (omega (arith, h, k))
+applied_placed : (p : Place) (f a : Placed Term) → IsTermPlaced f → IsTermPlaced a → IsTermPlaced (applied_at p f a)
+applied_placed p f a h k = simp length-append (omega (arith, h, k))
 
-operator_placed : (op a : Placed Term) → IsTermPlaced op → IsTermPlaced a → IsTermPlaced (operator_applied op a)
-operator_placed op a h k = simp length-append (omega (arith, h, k))
+and_placed : (p : Place) (a b : Placed Term) → IsTermPlaced a → IsTermPlaced b → IsTermPlaced (and_at p a b)
+and_placed p a b h k = simp length-append (omega (arith, h, k))
 
-finished_placed : (p : Place) (half b : Placed Term) → IsTermPlaced half → IsTermPlaced b → IsTermPlaced (operator_finished p half b)
-finished_placed p half b h k = simp length-append (omega (arith, h, k))
-
-and_placed : (a b : Placed Term) → IsTermPlaced a → IsTermPlaced b → IsTermPlaced (and_over a b)
-and_placed a b h k = simp length-append (omega (arith, h, k))
-
-or_placed : (a b : Placed Term) → IsTermPlaced a → IsTermPlaced b → IsTermPlaced (or_over a b)
-or_placed a b h k = simp length-append (omega (arith, h, k))
+or_placed : (p : Place) (a b : Placed Term) → IsTermPlaced a → IsTermPlaced b → IsTermPlaced (or_at p a b)
+or_placed p a b h k = simp length-append (omega (arith, h, k))
 
 pub conditional_placed : (p : Place) (a b c : Placed Term) → IsTermPlaced a → IsTermPlaced b → IsTermPlaced c → IsTermPlaced (conditional_at p a b c)
 conditional_placed p a b c h k l = simp length-append (omega (arith, h, k, l))
@@ -69,9 +63,9 @@ guarded_before_placed x g b cs h k l m = simp length-append (omega (arith, h, k,
 -- ---- the parts of an expression
 
 -- what there is has as many places as nodes
-abbrev pub IsPartPlaced : Option (Placed Term) → Type 0
+abbrev pub IsPartPlaced : Option Operand → Type 0
 IsPartPlaced None = Unit {0}
-IsPartPlaced (Some t) = IsTermPlaced t
+IsPartPlaced (Some a) = IsTermPlaced a.1
 
 pub record ArePartsPlaced (s : Parts) : Type 0 where
   pub ors : IsPartPlaced s.ors
@@ -82,44 +76,39 @@ pub record ArePartsPlaced (s : Parts) : Type 0 where
 pub no_parts_placed : ArePartsPlaced no_parts
 no_parts_placed = record { ors = tt; ands = tt; half = tt; atoms = tt }
 
-or_nothing_placed : (o : Option (Placed Term)) → IsPartPlaced o → IsTermPlaced (or_nothing o)
+or_nothing_placed : (o : Option Operand) → IsPartPlaced o → IsTermPlaced (or_nothing o).1
 unfolding or_nothing
 or_nothing_placed None h = refl
-or_nothing_placed (Some t) h = h
+or_nothing_placed (Some a) h = h
 
-applied_if_placed : (o : Option (Placed Term)) (a : Placed Term) → IsPartPlaced o → IsTermPlaced a → IsTermPlaced (applied_if o a)
+applied_if_placed : (o : Option Operand) (a : Operand) → IsPartPlaced o → IsTermPlaced a.1 → IsTermPlaced (applied_if o a).1
 unfolding applied_if
 applied_if_placed None a h k = k
-applied_if_placed (Some f) a h k = applied_placed f a h k
+applied_if_placed (Some f) a h k = applied_placed f.0 f.1 a.1 h k
 
-finished_if_placed : (o : Option (Placed Term)) (b : Placed Term) → IsPartPlaced o → IsTermPlaced b → IsTermPlaced (finished_if o b)
-unfolding finished_if
-finished_if_placed None b h k = k
-finished_if_placed (Some half) b h k = finished_placed (first_place half.1) half b h k
-
-and_if_placed : (o : Option (Placed Term)) (b : Placed Term) → IsPartPlaced o → IsTermPlaced b → IsTermPlaced (and_if o b)
+and_if_placed : (o : Option Operand) (b : Operand) → IsPartPlaced o → IsTermPlaced b.1 → IsTermPlaced (and_if o b).1
 unfolding and_if
 and_if_placed None b h k = k
-and_if_placed (Some a) b h k = and_placed a b h k
+and_if_placed (Some a) b h k = and_placed a.0 a.1 b.1 h k
 
-or_if_placed : (o : Option (Placed Term)) (b : Placed Term) → IsPartPlaced o → IsTermPlaced b → IsTermPlaced (or_if o b)
+or_if_placed : (o : Option Operand) (b : Operand) → IsPartPlaced o → IsTermPlaced b.1 → IsTermPlaced (or_if o b).1
 unfolding or_if
 or_if_placed None b h k = k
-or_if_placed (Some a) b h k = or_placed a b h k
+or_if_placed (Some a) b h k = or_placed a.0 a.1 b.1 h k
 
-pub with_atom_placed : (s : Parts) (a : Placed Term) → ArePartsPlaced s → IsTermPlaced a → ArePartsPlaced (with_atom s a)
+pub with_atom_placed : (s : Parts) (a : Operand) → ArePartsPlaced s → IsTermPlaced a.1 → ArePartsPlaced (with_atom s a)
 unfolding with_atom
 with_atom_placed s a h k = record { ors = h.ors; ands = h.ands; half = h.half; atoms = applied_if_placed s.atoms a h.atoms k }
 
-infix_placed : (s : Parts) → ArePartsPlaced s → IsTermPlaced (infix_of s)
+infix_placed : (s : Parts) → ArePartsPlaced s → IsTermPlaced (infix_of s).1
 unfolding infix_of
-infix_placed s h = finished_if_placed s.half (or_nothing s.atoms) h.half (or_nothing_placed s.atoms h.atoms)
+infix_placed s h = applied_if_placed s.half (or_nothing s.atoms) h.half (or_nothing_placed s.atoms h.atoms)
 
 pub behind_operator_placed : (s : Parts) (op : Placed Term) → ArePartsPlaced s → IsTermPlaced op → ArePartsPlaced (behind_operator s op)
 unfolding behind_operator
-behind_operator_placed s op h k = record { ors = h.ors; ands = h.ands; half = operator_placed op (infix_of s) k (infix_placed s h); atoms = tt }
+behind_operator_placed s op h k = record { ors = h.ors; ands = h.ands; half = applied_placed (infix_of s).0 op (infix_of s).1 k (infix_placed s h); atoms = tt }
 
-and_of_placed : (s : Parts) → ArePartsPlaced s → IsTermPlaced (and_of s)
+and_of_placed : (s : Parts) → ArePartsPlaced s → IsTermPlaced (and_of s).1
 unfolding and_of
 and_of_placed s h = and_if_placed s.ands (infix_of s) h.ands (infix_placed s h)
 
@@ -127,7 +116,7 @@ pub behind_and_placed : (s : Parts) → ArePartsPlaced s → ArePartsPlaced (beh
 unfolding behind_and
 behind_and_placed s h = record { ors = h.ors; ands = and_of_placed s h; half = tt; atoms = tt }
 
-pub whole_placed : (s : Parts) → ArePartsPlaced s → IsTermPlaced (whole_of s)
+pub whole_placed : (s : Parts) → ArePartsPlaced s → IsTermPlaced (whole_of s).1
 unfolding whole_of
 whole_placed s h = or_if_placed s.ors (and_of s) h.ors (and_of_placed s h)
 

@@ -1,5 +1,6 @@
 -- Each pattern that is meant has as many places as nodes.
 use Rattle.std.proofs.Common.{◌≡◌, suc, ◌++◌, length, refl, ap, arith, length-append}
+use Rattle.uc_base.specs.declared.place.Place.{Place}
 use Rattle.uc_tree.specs.Patterns as trees
 use Rattle.uc_tree.specs.Patterns.{Pattern as Tree, Patterns as Trees}
 use Rattle.uc_tree.specs.Nodes.{pattern_nodes, patterns_nodes}
@@ -8,7 +9,7 @@ use Rattle.uc_meaning.specs.declared.wanted.Wanted.TheVariants as wanted
 use Rattle.uc_meaning.specs.Candidates.{Usings}
 use Rattle.uc_meaning.specs.Meanings.{Known, con_meaning}
 use Rattle.uc_meaning.specs.Placed.{Placed}
-use Rattle.uc_meaning.specs.PatternMeanings.{pattern_meaning, snocs_meaning, operand_meaning, atom_meaning, patterns_meaning, atoms_meaning, snoc_over}
+use Rattle.uc_meaning.specs.PatternMeanings.{operand_start, pattern_meaning, snocs_meaning, operand_meaning, atom_meaning, patterns_meaning, atoms_meaning, snoc_at}
 use Rattle.uc_resolve.proofs.Answered.{Answers, answer, then_answers, any_answer}
 
 abbrev pub IsPatternPlaced : Placed Tree → Type 0
@@ -28,12 +29,12 @@ module _ (known : Known) (usings : Usings) where
     pub pattern_placed : (x : Pattern) → Answers IsPatternPlaced (pattern_meaning known usings x)
     pattern_placed (cons a p) =
         then_answers _ (operand_placed a) (λ x h. then_answers _ (pattern_placed p) (λ y k. answer (ap suc (two_patterns x y h k))))
-    pattern_placed (snocs a bs) = then_answers _ (operand_placed a) (λ x h. snocs_placed x bs h)
+    pattern_placed (snocs a bs) = then_answers _ (operand_placed a) (λ x h. snocs_placed (operand_start a) x bs h)
 
-    snocs_placed : (x : Placed Tree) (bs : PatternOperands) → IsPatternPlaced x → Answers IsPatternPlaced (snocs_meaning known usings x bs)
-    snocs_placed x no_operand h = answer h
-    snocs_placed x (more_operands b bs) h =
-        then_answers _ (operand_placed b) (λ y k. snocs_placed (snoc_over x y) bs (ap suc (two_patterns x y h k)))
+    snocs_placed : (p : Place) (x : Placed Tree) (bs : PatternOperands) → IsPatternPlaced x → Answers IsPatternPlaced (snocs_meaning known usings p x bs)
+    snocs_placed p x no_operand h = answer h
+    snocs_placed p x (more_operands b bs) h =
+        then_answers _ (operand_placed b) (λ y k. snocs_placed p (snoc_at p x y) bs (ap suc (two_patterns x y h k)))
 
     operand_placed : (a : PatternOperand) → Answers IsPatternPlaced (operand_meaning known usings a)
     operand_placed (applied c bs) =

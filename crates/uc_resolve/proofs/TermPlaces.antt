@@ -9,7 +9,7 @@ use Rattle.uc_scratch.specs.NameFaults.{head_place}
 use Rattle.uc_meaning.specs.declared.wanted.Wanted.TheVariants as wanted
 use Rattle.uc_meaning.specs.Candidates.{Usings}
 use Rattle.uc_meaning.specs.Meanings.{Known, name_meaning, reference_meaning}
-use Rattle.uc_meaning.specs.ExprMeanings.{Scope, under, with_using, in_block, param_binder, param_place, pattern_binders, is_binder_of, link_unless_bound, word_meaning, conditional_at, match_at, cases_at, lambdas_over, Parts, no_parts, with_atom, behind_operator, behind_and, behind_or, whole_of, Outer, innermost, others, Signed, signed_by, signature_for, body_scope, expr_meaning, atom_meaning, exprs_meaning, cases_meaning, block_meaning, bound_meaning}
+use Rattle.uc_meaning.specs.ExprMeanings.{Scope, under, with_using, in_block, param_binder, param_place, pattern_binders, is_binder_of, link_unless_bound, word_meaning, conditional_at, match_at, cases_at, lambdas_over, form, atom_start, Parts, no_parts, with_atom, behind_operator, behind_and, behind_or, whole_of, Outer, innermost, others, Signed, signed_by, signature_for, body_scope, expr_meaning, atom_meaning, exprs_meaning, cases_meaning, block_meaning, bound_meaning}
 use Rattle.uc_resolve.proofs.Answered.{Answers, answer, then_answers, any_answer}
 use Rattle.uc_resolve.proofs.TypePlaces.{signature_placed}
 use Rattle.uc_resolve.proofs.PatternPlaces.{pattern_placed}
@@ -28,8 +28,9 @@ module _ (known : Known) where
     expr_placed scope done s os h k = answer (whole_placed s h)
     expr_placed scope (lambda ps b e) s os h k =
         then_answers _ (block_placed (in_block (under (map param_binder ps) scope)) None b tt)
-        (λ x l. expr_placed scope e (with_atom s (lambdas_over ps x)) os (with_atom_placed s (lambdas_over ps x) h (lambdas_placed ps x l)) k)
-    expr_placed scope (atom a e) s os h k = then_answers _ (atom_placed scope a) (λ x l. expr_placed scope e (with_atom s x) os (with_atom_placed s x h l) k)
+        (λ x l. expr_placed scope e (with_atom s (form (lambdas_over ps x))) os (with_atom_placed s (form (lambdas_over ps x)) h (lambdas_placed ps x l)) k)
+    expr_placed scope (atom a e) s os h k =
+        then_answers _ (atom_placed scope a) (λ x l. expr_placed scope e (with_atom s (atom_start a, x)) os (with_atom_placed s (atom_start a, x) h l) k)
     expr_placed scope (operator w e) s os h k =
         then_answers _ (word_placed known scope w) (λ x l. expr_placed scope e (behind_operator s x) os (behind_operator_placed s x h l) k)
     expr_placed scope (and e) s os h k = expr_placed scope e (behind_and s) os (behind_and_placed s h) k
@@ -37,19 +38,19 @@ module _ (known : Known) where
     expr_placed scope (opens_if p e) s os h k = expr_placed scope e no_parts ((p, s) ∷ os) no_parts_placed (h, k)
     expr_placed scope (branches b c e) s os h k =
         then_answers _ (block_placed (in_block scope) None b tt) (λ x l. then_answers _ (block_placed (in_block scope) None c tt)
-        (λ y m. expr_placed scope e (with_atom (innermost os).1 (conditional_at (innermost os).0 (whole_of s) x y)) (others os)
-        (with_atom_placed (innermost os).1 (conditional_at (innermost os).0 (whole_of s) x y) (innermost_placed os k)
-        (conditional_placed (innermost os).0 (whole_of s) x y (whole_placed s h) l m)) (others_placed os k)))
+        (λ y m. expr_placed scope e (with_atom (innermost os).1 (form (conditional_at (innermost os).0 (whole_of s).1 x y))) (others os)
+        (with_atom_placed (innermost os).1 (form (conditional_at (innermost os).0 (whole_of s).1 x y)) (innermost_placed os k)
+        (conditional_placed (innermost os).0 (whole_of s).1 x y (whole_placed s h) l m)) (others_placed os k)))
     expr_placed scope (opens_match p e) s os h k = expr_placed scope e no_parts ((p, s) ∷ os) no_parts_placed (h, k)
     expr_placed scope (with_cases cs e) s os h k =
         then_answers _ (cases_placed scope cs)
-        (λ x l. expr_placed scope e (with_atom (innermost os).1 (match_at (innermost os).0 (whole_of s) x)) (others os)
-        (with_atom_placed (innermost os).1 (match_at (innermost os).0 (whole_of s) x) (innermost_placed os k) (match_placed (innermost os).0 (whole_of s) x (whole_placed s h) l))
+        (λ x l. expr_placed scope e (with_atom (innermost os).1 (form (match_at (innermost os).0 (whole_of s).1 x))) (others os)
+        (with_atom_placed (innermost os).1 (form (match_at (innermost os).0 (whole_of s).1 x)) (innermost_placed os k) (match_placed (innermost os).0 (whole_of s).1 x (whole_placed s h) l))
         (others_placed os k))
     expr_placed scope (cases p cs e) s os h k =
-        then_answers _ (cases_placed (under (None ∷ []) scope) cs) (λ x l. expr_placed scope e (with_atom s (cases_at p x)) os (with_atom_placed s (cases_at p x) h (cases_at_placed p x l)) k)
+        then_answers _ (cases_placed (under (None ∷ []) scope) cs) (λ x l. expr_placed scope e (with_atom s (form (cases_at p x))) os (with_atom_placed s (form (cases_at p x)) h (cases_at_placed p x l)) k)
     expr_placed scope (block p b e) s os h k =
-        then_answers _ (block_placed (in_block scope) None b tt) (λ x l. expr_placed scope e (with_atom s x) os (with_atom_placed s x h l) k)
+        then_answers _ (block_placed (in_block scope) None b tt) (λ x l. expr_placed scope e (with_atom s (p, x)) os (with_atom_placed s (p, x) h l) k)
 
     atom_placed : (scope : Scope) (a : Atom) → Answers IsTermPlaced (atom_meaning known scope a)
     atom_placed scope (path w) = word_placed known scope w

@@ -14,7 +14,7 @@ use Rattle.uc_meaning.specs.declared.wanted.Wanted.TheVariants as wanted
 use Rattle.uc_meaning.specs.Candidates.{Usings}
 use Rattle.uc_meaning.specs.Meanings.{Known, con_meaning}
 use Rattle.uc_meaning.specs.Placed.{Placed, first_place}
-use Rattle.uc_meaning.specs.TypeMeanings.{quantified_at, variable_at, type_meaning, type_operand_meaning, type_atom_meaning, types_meaning, type_atoms_meaning, signature_meaning}
+use Rattle.uc_meaning.specs.TypeMeanings.{operand_start, arrow_at, quantified_at, variable_at, type_meaning, type_operand_meaning, type_atom_meaning, types_meaning, type_atoms_meaning, signature_meaning}
 use Rattle.uc_resolve.proofs.Answered.{Answers, answer, fault, then_answers, any_answer}
 
 abbrev pub IsTypePlaced : Placed Ty → Type 0
@@ -27,8 +27,8 @@ quantified_placed : (p : Place) (n : ℕ) (x : Placed Ty) → IsTypePlaced x →
 quantified_placed p zero x h = h
 quantified_placed p (suc n) x h = quantified_placed p n (types.quantified x.0, p ∷ x.1) (ap suc h)
 
-arrow_placed : (x y : Placed Ty) → IsTypePlaced x → IsTypePlaced y → length (first_place x.1 ∷ x.1 ++ y.1) ≡ length (ty_nodes (types.arrow x.0 y.0))
-arrow_placed x y h k = simp length-append (omega (arith, h, k))
+arrow_placed : (p : Place) (x y : Placed Ty) → IsTypePlaced x → IsTypePlaced y → IsTypePlaced (arrow_at p x y)
+arrow_placed p x y h k = simp length-append (omega (arith, h, k))
 
 type_before : (x : Placed Ty) (xs : Placed Tys) → IsTypePlaced x → AreTypesPlaced xs → length (x.1 ++ xs.1) ≡ length (tys_nodes (types.more x.0 xs.0))
 type_before x xs h k = simp length-append (omega (arith, h, k))
@@ -46,7 +46,7 @@ module _ (known : Known) (usings : Usings) where
     type_placed scope (written_types.quantified p ws t) =
         then_answers _ (type_placed (reverse (texts_of ws) ++ scope) t) (λ x h. answer (quantified_placed p (length ws) x h))
     type_placed scope (written_types.arrow a t) =
-        then_answers _ (type_operand_placed scope a) (λ x h. then_answers _ (type_placed scope t) (λ y k. answer (arrow_placed x y h k)))
+        then_answers _ (type_operand_placed scope a) (λ x h. then_answers _ (type_placed scope t) (λ y k. answer (arrow_placed (operand_start a) x y h k)))
     type_placed scope (written_types.operand a) = type_operand_placed scope a
 
     type_operand_placed : (scope : List (List ℕ)) (a : TypeOperand) → Answers IsTypePlaced (type_operand_meaning known usings scope a)

@@ -75,16 +75,16 @@ pub fn list_at(place: Place, parts: Placed<Vec<Pattern>>) -> Result<Placed<Patte
     })
 }
 
-/// `+:` with both sides, at the place of the left one.
-pub fn cons_over(
+/// `+:` with both sides, where the left one begins.
+pub fn cons_at(
     alloc: Global,
+    place: Place,
     first: Placed<Pattern>,
     rest: Placed<Pattern>,
 ) -> Result<Placed<Pattern>, AllocError>
-    ensures { IfOk result (λ p. placed_of p ≡ spec.cons_over (placed_of first) (placed_of rest)) }
+    ensures { IfOk result (λ p. placed_of p ≡ spec.cons_at place (placed_of first) (placed_of rest)) }
 {
     let Placed { tree, mut places } = first;
-    let place = places.first();
     places.append(rest.places)?;
     places.put_in_front(place)?;
     Ok(Placed {
@@ -93,16 +93,16 @@ pub fn cons_over(
     })
 }
 
-/// `:+` with both sides, at the place of the left one.
-pub fn snoc_over(
+/// `:+` with both sides, where the left one begins.
+pub fn snoc_at(
     alloc: Global,
+    place: Place,
     front: Placed<Pattern>,
     last: Placed<Pattern>,
 ) -> Result<Placed<Pattern>, AllocError>
-    ensures { IfOk result (λ p. placed_of p ≡ spec.snoc_over (placed_of front) (placed_of last)) }
+    ensures { IfOk result (λ p. placed_of p ≡ spec.snoc_at place (placed_of front) (placed_of last)) }
 {
     let Placed { tree, mut places } = front;
-    let place = places.first();
     places.append(last.places)?;
     places.put_in_front(place)?;
     Ok(Placed {

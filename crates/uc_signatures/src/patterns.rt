@@ -9,15 +9,47 @@ ghost use Rattle.uc_signatures.specs.Joined.{behind_patterns};
 ghost use Rattle.uc_signatures.specs.PlacedViews.{placed_of, placed_patterns, aliases};
 
 use crate::names::{con_place, resolve_con};
-use crate::pattern_nodes::{
-    alias_at, cons_over, constructor_at, leaf, list_at, snoc_over, tuple_at,
-};
+use crate::pattern_nodes::{alias_at, cons_at, constructor_at, leaf, list_at, snoc_at, tuple_at};
 use crate::placed::Placed;
 use std::alloc::{AllocError, Global};
-use uc_base::Fault;
+use uc_base::{Fault, Place};
 use uc_meaning::{Meanings, Usings, Wanted, literal_value};
 use uc_scratch::{Pattern as WrittenPattern, PatternAtom, PatternForm, PatternOperand, Written};
 use uc_tree::Pattern;
+
+fn form_start(form: &PatternForm) -> Place
+    ensures { result ≡ spec.atom_start (pattern_form form.now) }
+{
+    match form {
+        PatternForm::Variable(name) => name.place,
+        PatternForm::Literal(literal) => literal.written.place,
+        PatternForm::Con(con) => con_place(con),
+        PatternForm::Any(place)
+        | PatternForm::Unit(place)
+        | PatternForm::Group(place, _)
+        | PatternForm::Tuple(place, _)
+        | PatternForm::List(place, _) => *place,
+    }
+}
+
+fn atom_start(atom: &PatternAtom) -> Place
+    ensures { result ≡ spec.atom_start (pattern_atom atom.now) }
+{
+    match atom.names.as_slice() {
+        [] => form_start(&atom.form),
+        [name, ..] => name.place,
+    }
+}
+
+/// Where an operand begins, a bracket round it included.
+fn operand_start(operand: &PatternOperand) -> Place
+    ensures { result ≡ spec.operand_start (pattern_operand operand.now) }
+{
+    match operand {
+        PatternOperand::Applied(con, _) => con_place(con),
+        PatternOperand::Atom(atom) => atom_start(atom),
+    }
+}
 
 /// The tree of a pattern.
 #[cycle(resolve_pattern)]
@@ -50,7 +82,7 @@ fn resolve_heads<M: Meanings>(
         [head, rest @ ..] => {
             let first = resolve_operand(alloc, meanings, usings, head)?;
             let rest = resolve_heads(alloc, meanings, usings, rest, middle, tails)?;
-            Ok(cons_over(alloc, first, rest)?)
+            Ok(cons_at(alloc, operand_start(head), first, rest)?)
         }
     }
 }
@@ -67,10 +99,11 @@ fn resolve_tails<M: Meanings>(
     ensures { Gives placed_of result (spec.pattern_meaning (M.known meanings.now) usings.now
         (snocs (pattern_operand middle.now) (pattern_operands tails.now))) }
 {
+    let start = operand_start(middle);
     let mut front = resolve_operand(alloc, meanings, usings, middle)?;
     for tail in tails {
         let last = resolve_operand(alloc, meanings, usings, tail)?;
-        front = snoc_over(alloc, front, last)?;
+        front = snoc_at(alloc, start, front, last)?;
     }
     Ok(front)
 }

@@ -84,12 +84,16 @@ pub fn list_at(alloc: Global, place: Place, element: Placed<Ty>) -> Result<Place
     })
 }
 
-/// An arrow, at the place of its left side.
-pub fn arrow_over(alloc: Global, from: Placed<Ty>, to: Placed<Ty>) -> Result<Placed<Ty>, AllocError>
-    ensures { IfOk result (λ t. placed_of t ≡ spec.arrow_over (placed_of from) (placed_of to)) }
+/// An arrow, where its left side begins.
+pub fn arrow_at(
+    alloc: Global,
+    place: Place,
+    from: Placed<Ty>,
+    to: Placed<Ty>,
+) -> Result<Placed<Ty>, AllocError>
+    ensures { IfOk result (λ t. placed_of t ≡ spec.arrow_at place (placed_of from) (placed_of to)) }
 {
     let Placed { tree, mut places } = from;
-    let place = places.first();
     places.append(to.places)?;
     places.put_in_front(place)?;
     Ok(Placed {

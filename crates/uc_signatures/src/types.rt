@@ -14,11 +14,11 @@ ghost use Rattle.uc_signatures.specs.PlacedViews.{placed_of, placed_types};
 use crate::names::{con_place, resolve_con};
 use crate::placed::Placed;
 use crate::type_nodes::{
-    applied_at, arrow_over, list_at, quantified_at, tuple_at, unit_at, variable_at,
+    applied_at, arrow_at, list_at, quantified_at, tuple_at, unit_at, variable_at,
 };
 use crate::type_variables::TypeVariables;
 use std::alloc::{AllocError, Global};
-use uc_base::{Bytes, Fault, Name};
+use uc_base::{Bytes, Fault, Name, Place};
 use uc_meaning::{Meanings, Usings, Wanted};
 use uc_scratch::{
     Scope, TypeAtom, TypeExpr, TypeFront, TypeOperand, Written, front_variables, put_in_front,
@@ -46,6 +46,29 @@ fn resolve_variable(
     match variables.find(name.text.as_slice()) {
         None => Err(unbound(alloc, name)),
         Some(number) => Ok(variable_at(alloc, name.place, number)?),
+    }
+}
+
+fn atom_start(atom: &TypeAtom) -> Place
+    ensures { result ≡ spec.atom_start (type_atom atom.now) }
+{
+    match atom {
+        TypeAtom::Variable(name) => name.place,
+        TypeAtom::Con(con) => con_place(con),
+        TypeAtom::Unit(place)
+        | TypeAtom::Group(place, _)
+        | TypeAtom::Tuple(place, _)
+        | TypeAtom::List(place, _) => *place,
+    }
+}
+
+/// Where an operand begins, a bracket round it included.
+fn operand_start(operand: &TypeOperand) -> Place
+    ensures { result ≡ spec.operand_start (type_operand operand.now) }
+{
+    match operand {
+        TypeOperand::Applied(con, _) => con_place(con),
+        TypeOperand::Atom(atom) => atom_start(atom),
     }
 }
 
@@ -89,7 +112,7 @@ fn resolve_fronts<M: Meanings>(
         [TypeFront::Arrow(left), rest @ ..] => {
             let from = resolve_operand(alloc, meanings, usings, variables, left)?;
             let to = resolve_fronts(alloc, meanings, usings, variables, rest, last)?;
-            Ok(arrow_over(alloc, from, to)?)
+            Ok(arrow_at(alloc, operand_start(left), from, to)?)
         }
     }
 }

@@ -164,7 +164,7 @@ impl Head {
         let mut hashes = Vec::new(alloc);
         hashes.push(Hash([0; 64]))?;
         let mut other = [0; 64];
-        other[63] = 1;
+        other[4] = 1;
         hashes.push(Hash(other))?;
         Head::new(alloc, hashes)
     }

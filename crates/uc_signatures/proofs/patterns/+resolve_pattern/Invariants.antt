@@ -1,7 +1,7 @@
 use Rattle.std.proofs.Common.{◌≡◌, ◌+◌, ◌*◌, drop}
 use Rattle.uc_scratch.specs.Patterns.{snocs, patterns_of, pattern_size, operand_size, operands_size, atom_size, patterns_size, atoms_size}
 use Rattle.uc_scratch.specs.PatternViews.{heads_before, pattern_operand, pattern_operands, pattern_atom, pattern_atoms, pattern_form}
-use Rattle.uc_meaning.specs.PatternMeanings.{snocs_meaning, patterns_meaning, atoms_meaning, pattern_meaning}
+use Rattle.uc_meaning.specs.PatternMeanings.{operand_start, snocs_meaning, patterns_meaning, atoms_meaning, pattern_meaning}
 use Rattle.uc_signatures.specs.Joined.{behind_patterns}
 use Rattle.uc_signatures.specs.PlacedViews.{placed_of}
 use Rattle.uc_signatures.proofs.patterns.+resolve_pattern.Given as goal
@@ -38,7 +38,7 @@ decreases-resolve_atoms g l = 4 * atoms_size (pattern_atoms l.atoms.now)
 
 abbrev pub invariant-resolve_tails-loop-tail : goal.invariant-resolve_tails-loop-tail
 invariant-resolve_tails-loop-tail g l =
-    snocs_meaning (g.M.Meanings.known l.meanings) l.usings (placed_of l.front) (pattern_operands (drop l.tail-index l.tails))
+    snocs_meaning (g.M.Meanings.known l.meanings) l.usings (operand_start (pattern_operand l.middle)) (placed_of l.front) (pattern_operands (drop l.tail-index l.tails))
     ≡ pattern_meaning (g.M.Meanings.known l.meanings) l.usings (snocs (pattern_operand l.middle) (pattern_operands l.tails))
 
 abbrev pub invariant-resolve_patterns-loop-p : goal.invariant-resolve_patterns-loop-p
